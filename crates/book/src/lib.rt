@@ -1,0 +1,217 @@
+// The records of the venue's side (book.rs of the Rust) and, in modules of their own, the lists that hold them, the state and the configuration.
+// Each enum has the blank's case first, so that a slot of zeros and first cases is the blank entry.
+pub mod account;
+pub mod config;
+pub mod deliveries;
+pub mod msgs;
+pub mod observed;
+pub mod orders;
+pub mod state;
+
+use numbers::words::saturating_sub;
+ghost use mathlib.Core.Path.{_≡_};
+ghost use Rattle.book.specs.Entries.{remaining, inState, isTerminal, blankOrder, blankMsg, blankDelivery, blankObs};
+
+// The Rust's Dir.
+pub enum Side {
+    Buy,
+    Sell,
+}
+
+pub enum OrderState {
+    Submitted,
+    Active,
+    Filled,
+    Canceled,
+    Rejected,
+}
+
+impl OrderState {
+    pub fn is_terminal(self) -> bool
+        ensures { λ r. ⌜ r ≡ isTerminal self ⌝ }
+    {
+        match self {
+            OrderState::Submitted => false,
+            OrderState::Active => false,
+            OrderState::Filled => true,
+            OrderState::Canceled => true,
+            OrderState::Rejected => true,
+        }
+    }
+}
+
+// An order at the venue: resting, pending activation or awaiting a cancel's outcome.
+pub struct VenueOrder {
+    pub id: u64,
+    pub side: Side,
+    pub price: u64,
+    pub qty: u64,
+    pub filled: u64,
+    pub state: OrderState,
+    pub active_after_ns: u64,
+    pub cancel_inflight: bool,
+}
+
+impl VenueOrder {
+    pub fn blank() -> Self
+        ensures { λ r. ⌜ r ≡ blankOrder ⌝ }
+    {
+        VenueOrder {
+            id: 0,
+            side: Side::Buy,
+            price: 0,
+            qty: 0,
+            filled: 0,
+            state: OrderState::Submitted,
+            active_after_ns: 0,
+            cancel_inflight: false,
+        }
+    }
+
+    pub fn remaining(self) -> u64
+        ensures { λ r. ⌜ r ≡ remaining self ⌝ }
+    {
+        saturating_sub(self.qty, self.filled)
+    }
+
+    // The order in another state. A field that is an enum is not stored to, so the struct is made anew.
+    pub fn in_state(self, state: OrderState) -> VenueOrder
+        ensures { λ r. ⌜ r ≡ inState self state ⌝ }
+    {
+        let side = self.side;
+        VenueOrder {
+            id: self.id,
+            side,
+            price: self.price,
+            qty: self.qty,
+            filled: self.filled,
+            state,
+            active_after_ns: self.active_after_ns,
+            cancel_inflight: self.cancel_inflight,
+        }
+    }
+}
+
+// A message holds one of three kinds. An activation carries a whole order and its life, 0 for none.
+pub enum MsgKind {
+    Cancel { id: u64 },
+    Activate { order: VenueOrder, life: u64 },
+    Expire { id: u64 },
+}
+
+// A venue message, keyed by (eff_ns, seq).
+pub struct VenueMsg {
+    pub eff_ns: u64,
+    pub seq: u64,
+    pub kind: MsgKind,
+}
+
+impl VenueMsg {
+    pub fn blank() -> Self
+        ensures { λ r. ⌜ r ≡ blankMsg ⌝ }
+    {
+        VenueMsg {
+            eff_ns: 0,
+            seq: 0,
+            kind: MsgKind::Cancel { id: 0 },
+        }
+    }
+}
+
+pub enum ExecKind {
+    Accepted,
+    Rejected,
+    Canceled,
+    CancelRejected,
+    PartialFill,
+    Fill,
+}
+
+// Where a report was produced.
+pub enum Origin {
+    Local,
+    Venue,
+}
+
+pub struct ReportRec {
+    pub ts_ns: u64,
+    pub seq: u64,
+    pub order_id: u64,
+    pub side: Side,
+    pub kind: ExecKind,
+    pub origin: Origin,
+    pub cancel_pending: bool,
+    pub price: u64,
+    pub qty: u64,
+    pub last: u64,
+    pub cum: u64,
+}
+
+pub struct FillRec {
+    pub ts_ns: u64,
+    pub exec_id: u64,
+    pub order_id: u64,
+    pub side: Side,
+    pub price: u64,
+    pub qty: u64,
+}
+
+pub enum MaybeFill {
+    None,
+    Some(FillRec),
+}
+
+// A report on its way to the agent, with the fill's record if it came from a match.
+pub struct Delivery {
+    pub at_ns: u64,
+    pub report: ReportRec,
+    pub fill: MaybeFill,
+}
+
+impl Delivery {
+    pub fn blank() -> Self
+        ensures { λ r. ⌜ r ≡ blankDelivery ⌝ }
+    {
+        let report = ReportRec {
+            ts_ns: 0,
+            seq: 0,
+            order_id: 0,
+            side: Side::Buy,
+            kind: ExecKind::Accepted,
+            origin: Origin::Local,
+            cancel_pending: false,
+            price: 0,
+            qty: 0,
+            last: 0,
+            cum: 0,
+        };
+        Delivery {
+            at_ns: 0,
+            report,
+            fill: MaybeFill::None,
+        }
+    }
+}
+
+// An observation on its way to the agent.
+pub struct ObsEntry {
+    pub ready_ns: u64,
+    pub row: u64,
+}
+
+impl ObsEntry {
+    pub fn blank() -> Self
+        ensures { λ r. ⌜ r ≡ blankObs ⌝ }
+    {
+        ObsEntry {
+            ready_ns: 0,
+            row: 0,
+        }
+    }
+}
+
+// What a search answers: a place, or none.
+pub enum Found {
+    None,
+    At(usize),
+}

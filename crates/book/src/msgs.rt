@@ -1,0 +1,233 @@
+// The venue's messages, at most 16, which stand by (eff_ns, seq).
+use super::Found;
+use super::MsgKind;
+use super::VenueMsg;
+ghost use mathlib.Core.Path.{_≡_};
+ghost use Rattle.lists.specs.Lists.{live, before, foundIn, putAt, putBefore, takeAt, popped, entryAt, emptied};
+ghost use Rattle.book.specs.Entries.{blankMsg, isLater, isActivation, isExpiry, place};
+ghost use Rattle.book.specs.Rows.{emptyMsgs, msgsRow, msgsPut, msgsTaken, msgIn};
+
+impl VenueMsg {
+    // Whether its pair is greater than (eff_ns, seq).
+    pub fn is_later(self, eff_ns: u64, seq: u64) -> bool
+        ensures { λ r. ⌜ r ≡ isLater «eff_ns» seq self ⌝ }
+    {
+        if self.eff_ns == eff_ns {
+            return seq < self.seq;
+        }
+        eff_ns < self.eff_ns
+    }
+
+    pub fn is_activation(self, id: u64) -> bool
+        ensures { λ r. ⌜ r ≡ isActivation id self ⌝ }
+    {
+        let kind = self.kind;
+        match kind {
+            MsgKind::Cancel { id: _ } => false,
+            MsgKind::Activate { order, life: _ } => order.id == id,
+            MsgKind::Expire { id: _ } => false,
+        }
+    }
+
+    pub fn is_expiry(self, id: u64) -> bool
+        ensures { λ r. ⌜ r ≡ isExpiry id self ⌝ }
+    {
+        let kind = self.kind;
+        match kind {
+            MsgKind::Cancel { id: _ } => false,
+            MsgKind::Activate { order: _, life: _ } => false,
+            MsgKind::Expire { id: target } => target == id,
+        }
+    }
+}
+
+pub struct Msgs {
+    pub slots: [VenueMsg; 16],
+    pub count: usize,
+}
+
+pub struct MsgsPut {
+    pub ok: bool,
+    pub list: Msgs,
+}
+
+pub enum MaybeMsg {
+    None,
+    Some(VenueMsg),
+}
+
+pub struct MsgsTaken {
+    pub got: MaybeMsg,
+    pub list: Msgs,
+}
+
+impl Msgs {
+    pub fn new() -> Self
+        ensures { λ r. ⌜ r ≡ emptyMsgs ⌝ }
+    {
+        let blank = VenueMsg::blank();
+        let slots = [blank; 16];
+        Msgs { slots, count: 0 }
+    }
+
+    pub fn get(self, at: usize) -> MaybeMsg
+        ensures { λ r. ⌜ msgIn r ≡ entryAt 16 blankMsg at (msgsRow self) ⌝ }
+    {
+        let list = self;
+        let count = list.count;
+        if count > 16 {
+            return MaybeMsg::None;
+        }
+        if at >= count {
+            return MaybeMsg::None;
+        }
+        MaybeMsg::Some(list.slots[at])
+    }
+
+    // Each entry from the place on moves one slot up: it is carried to its new slot by the one before it.
+    pub fn insert(self, at: usize, value: VenueMsg) -> MsgsPut
+        ensures { λ r. ⌜ msgsPut r ≡ putAt 16 at value (msgsRow self) ⌝ }
+    {
+        let count = self.count;
+        if count >= 16 {
+            return MsgsPut {
+                ok: false,
+                list: self,
+            };
+        }
+        if at > count {
+            return MsgsPut {
+                ok: false,
+                list: self,
+            };
+        }
+        let mut next = self;
+        let mut carry = value;
+        for i in at..count + 1 {
+            let held = next.slots[i];
+            next.slots[i] = carry;
+            carry = held;
+        }
+        next.count = count + 1;
+        MsgsPut {
+            ok: true,
+            list: next,
+        }
+    }
+
+    // Each entry behind the place moves one slot down, and the last live slot becomes blank.
+    pub fn remove(self, at: usize) -> MsgsTaken
+        ensures { λ r. ⌜ msgsTaken r ≡ takeAt 16 blankMsg at (msgsRow self) ⌝ }
+    {
+        let count = self.count;
+        if count > 16 {
+            return MsgsTaken {
+                got: MaybeMsg::None,
+                list: self,
+            };
+        }
+        if at >= count {
+            return MsgsTaken {
+                got: MaybeMsg::None,
+                list: self,
+            };
+        }
+        let mut next = self;
+        let got = next.slots[at];
+        let blank = VenueMsg::blank();
+        let last = count - 1;
+        for i in at..last {
+            let moved = next.slots[i + 1];
+            next.slots[i] = moved;
+        }
+        next.slots[last] = blank;
+        next.count = last;
+        MsgsTaken {
+            got: MaybeMsg::Some(got),
+            list: next,
+        }
+    }
+
+    pub fn pop_front(self) -> MsgsTaken
+        ensures { λ r. ⌜ msgsTaken r ≡ popped 16 blankMsg (msgsRow self) ⌝ }
+    {
+        self.remove(0)
+    }
+
+    pub fn clear(self) -> Msgs
+        ensures { λ r. ⌜ msgsRow r ≡ emptied 16 blankMsg (msgsRow self) ⌝ }
+    {
+        let count = self.count;
+        if count > 16 {
+            return self;
+        }
+        let mut next = self;
+        let blank = VenueMsg::blank();
+        for i in 0..count {
+            next.slots[i] = blank;
+        }
+        next.count = 0;
+        next
+    }
+
+    // The first activation of this order.
+    pub fn activation(self, id: u64) -> Found
+        ensures { λ r. ⌜ place r ≡ foundIn (isActivation id) (live 16 (msgsRow self)) ⌝ }
+    {
+        let list = self;
+        let count = list.count;
+        if count > 16 {
+            return Found::None;
+        }
+        for i in 0..count {
+            let m = list.slots[i];
+            if m.is_activation(id) {
+                return Found::At(i);
+            }
+        }
+        Found::None
+    }
+
+    // The first expiry of this order.
+    pub fn expiry(self, id: u64) -> Found
+        ensures { λ r. ⌜ place r ≡ foundIn (isExpiry id) (live 16 (msgsRow self)) ⌝ }
+    {
+        let list = self;
+        let count = list.count;
+        if count > 16 {
+            return Found::None;
+        }
+        for i in 0..count {
+            let m = list.slots[i];
+            if m.is_expiry(id) {
+                return Found::At(i);
+            }
+        }
+        Found::None
+    }
+
+    // Before the first with a greater pair, else behind the last.
+    pub fn place_by_key(self, eff_ns: u64, seq: u64) -> usize
+        ensures { λ r. ⌜ r ≡ before (isLater «eff_ns» seq) (live 16 (msgsRow self)) ⌝ }
+    {
+        let list = self;
+        let count = list.count;
+        if count > 16 {
+            return 0;
+        }
+        for i in 0..count {
+            let m = list.slots[i];
+            if m.is_later(eff_ns, seq) {
+                return i;
+            }
+        }
+        count
+    }
+
+    pub fn insert_by_key(self, value: VenueMsg) -> MsgsPut
+        ensures { λ r. ⌜ msgsPut r ≡ putBefore 16 (isLater (value .«eff_ns») (value .seq)) value (msgsRow self) ⌝ }
+    {
+        let at = self.place_by_key(value.eff_ns, value.seq);
+        self.insert(at, value)
+    }
+}

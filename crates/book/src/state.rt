@@ -1,0 +1,117 @@
+// The state of the advance (state.rs of the Rust, with the gate's of gate.rs and the agent's of ledger.rs), and what it tells.
+// The fields and names are the Rust's. Those of one purpose are grouped, since a field that is an enum is not stored to: the small struct around it is made anew.
+use super::FillRec;
+use super::ReportRec;
+use super::account::AgentAccount;
+use super::deliveries::Deliveries;
+use super::msgs::Msgs;
+use super::observed::Observed;
+use super::orders::Orders;
+use numbers::MaybeU64;
+use numbers::position::Position;
+
+pub enum Phase {
+    BeforeMatch,
+    ObsQueued,
+    AwaitDecision,
+    Terminal,
+}
+
+pub enum HaltReason {
+    LedgerOverflow,
+    TimeOverflow,
+    CounterOverflow,
+}
+
+pub enum Status {
+    Running,
+    EndOfData,
+    Truncated,
+    Halted(HaltReason),
+}
+
+// Where the advance stands.
+pub struct Control {
+    pub phase: Phase,
+    pub resume: Phase,
+    pub cursor: u64,
+    pub cur_row: MaybeU64,
+    pub step: u64,
+    pub status: Status,
+}
+
+// The time, and the times of the last delivery and the last observation that were queued.
+pub struct Clock {
+    pub now_ns: u64,
+    pub last_delivery_ns: u64,
+    pub last_observed_ns: u64,
+}
+
+// The next number of each kind that the venue gives out.
+pub struct Seqs {
+    pub stamp_seq: u64,
+    pub next_msg_seq: u64,
+    pub next_exec_id: u64,
+}
+
+// The venue's position, the live lots of each side and the last mark, in half ticks.
+pub struct GateState {
+    pub venue_pos: Position,
+    pub live_buy_lots: u64,
+    pub live_sell_lots: u64,
+    pub mark2: MaybeU64,
+}
+
+// What the agent knows: updated by each delivery and each observation.
+pub struct AgentView {
+    pub pos: Position,
+    pub last_obs_row: MaybeU64,
+    pub delivered_local_rejects: u64,
+    pub delivered_fills: u64,
+}
+
+pub struct Counters {
+    pub halts: u64,
+    pub venue_fills: u64,
+    pub eof_dropped_msgs: u64,
+    pub eof_dropped_obs: u64,
+}
+
+pub struct KernelState {
+    pub control: Control,
+    pub clock: Clock,
+    pub rng_latency: u64,
+    pub seqs: Seqs,
+    pub orders: Orders,
+    pub msgs: Msgs,
+    pub awaiting: Orders,
+    pub gate: GateState,
+    pub deliveries: Deliveries,
+    pub observed: Observed,
+    pub agent: AgentView,
+    pub account: AgentAccount,
+    pub counters: Counters,
+}
+
+// What the advance tells, in the order of the paper's numbers, 1 to 10.
+pub enum KernelEvent {
+    Report(ReportRec),
+    Fill(FillRec),
+    Delivered(ReportRec),
+    Observed { row: u64, at_ns: u64 },
+    RowEnd { row: u64, ts_ns: u64 },
+    EndOfData { dropped_msgs: u64, dropped_obs: u64 },
+    Halted(HaltReason),
+    DroppedMsg { order_id: u64, cancel: bool },
+    Expired { order_id: u64, at_ns: u64 },
+    DroppedExpiry { order_id: u64 },
+}
+
+// Why a call is refused, in the order of the paper's numbers, from 101.
+pub enum Refusal {
+    RowWords,
+    ListCount,
+    NotPaused,
+    NoResume,
+    StepLimit,
+}

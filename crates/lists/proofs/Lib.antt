@@ -1,0 +1,5 @@
+pub mod Loops
+pub mod Ways
+pub mod Cases
+pub mod Sums
+pub mod Examples

@@ -1,0 +1,4 @@
+pub mod Fitting
+pub mod Products
+pub mod Signed
+pub mod WideLaws

@@ -1,0 +1,4 @@
+pub mod Choice
+pub mod Words
+pub mod Wide
+pub mod Position

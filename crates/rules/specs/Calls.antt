@@ -1,0 +1,102 @@
+-- The two calls, and 'Refused or halted'.
+use Prim.Native.Nat.{ℕ, _+_, _%_}
+use mathlib.Core.Bool.{Bool, true, false, _&&_}
+use mathlib.Core.List.{List, [], _∷_, _++_}
+use lib.Dec.{leb, eqb}
+use lib.ListN.{length}
+use Rattle.numbers.specs.Choice.{pick}
+use Rattle.numbers.specs.Words.{fitting, onWord}
+use Rattle.book.specs.With.{withControl, withCounters, controlPhase, controlStep, controlStatus, countersHalts}
+use Rattle.book.specs.declared.VenueMsg.{VenueMsg}
+use Rattle.book.specs.declared.config.Config.{Config}
+use Rattle.book.specs.declared.state.HaltReason.{HaltReason}
+use Rattle.book.specs.declared.state.KernelEvent.{KernelEvent}
+use Rattle.book.specs.declared.state.KernelEvent.the-variants.{Halted}
+use Rattle.book.specs.declared.state.KernelState.{KernelState}
+use Rattle.book.specs.declared.state.Phase.{Phase}
+use Rattle.book.specs.declared.state.Phase.the-variants.{BeforeMatch, ObsQueued, AwaitDecision, Terminal}
+use Rattle.book.specs.declared.state.Refusal.{Refusal}
+use Rattle.book.specs.declared.state.Refusal.the-variants.{RowWords, ListCount, NotPaused, NoResume, StepLimit}
+use Rattle.book.specs.declared.state.Status.the-variants as status
+use Rattle.rules.specs.Run.{Outcome, Run, ran, left, halt, ended}
+use Rattle.rules.specs.Log.{written}
+use Rattle.rules.specs.Phases.{phases}
+
+-- what a call did: it is refused, or it ran and neither halted nor ended the data, or it took one of these two steps itself
+pub data Did : Type 0 where
+  refused : Refusal → Did
+  stays : Did
+  halts : HaltReason → Did
+  ends : List VenueMsg → Did
+
+pub record Answer : Type 0 where
+  pub did : Did
+  pub state : KernelState
+  pub events : List KernelEvent
+
+-- "Refusals (101 up) return the state unchanged, the log untouched, count 0."
+abbrev pub refuse : Refusal → KernelState → Answer
+refuse r s = record { did = refused r; state = s; events = [] }
+
+-- "Halts set status, Terminal, `halts` to 1, write event 7 and keep all done before."
+abbrev pub halted : HaltReason → KernelState → KernelState
+halted h s = withCounters (withControl s (controlStatus (controlPhase (s .control) Terminal) (status.Halted h))) (countersHalts (s .counters) 1)
+
+abbrev pub answerOn : Outcome → KernelState → List KernelEvent → Answer
+answerOn ran s es = record { did = stays; state = s; events = es }
+answerOn left s es = record { did = stays; state = s; events = es }
+answerOn (halt h) s es = record { did = halts h; state = halted h s; events = es ++ Halted h ∷ [] }
+answerOn (ended ms) s es = record { did = ends ms; state = s; events = es }
+
+unfoldable pub answer : Run → Answer
+answer r = answerOn (r .outcome) (r .state) (r .events)
+
+-- "both entries, next: a list count above capacity: 102"
+unfoldable pub countsFit : KernelState → Bool
+countsFit s =
+    leb (s .orders .count) 8 && leb (s .msgs .count) 16 && leb (s .awaiting .count) 8
+    && leb (s .deliveries .count) 24 && leb (s .observed .count) 16 && leb (s .account .count) 8
+
+-- "advance entry: row words not a multiple of 5: 101"
+unfoldable pub advance : Config → List ℕ → KernelState → Answer
+advance c rows s =
+    pick (eqb (length rows % 5) 0)
+    (pick (countsFit s) (answer (phases c rows s)) (refuse ListCount s))
+    (refuse RowWords s)
+
+abbrev pub isPaused : Phase → Bool
+isPaused BeforeMatch = false
+isPaused ObsQueued = false
+isPaused AwaitDecision = true
+isPaused Terminal = false
+
+abbrev pub canResume : Phase → Bool
+canResume BeforeMatch = true
+canResume ObsQueued = true
+canResume AwaitDecision = false
+canResume Terminal = false
+
+-- "`pass`, no action at a pause: `step` rises by one, the phase becomes `resume`."
+abbrev pub passed : ℕ → KernelState → Answer
+passed n s = record { did = stays; state = withControl s (controlPhase (controlStep (s .control) n) (s .control .resume)); events = [] }
+
+-- "pass, in order: not AwaitDecision; resume neither BeforeMatch nor ObsQueued; step 2^64 − 1: 103; 104; 105"
+unfoldable pub pass : KernelState → Answer
+pass s =
+    pick (countsFit s)
+    (pick (isPaused (s .control .phase))
+    (pick (canResume (s .control .resume))
+    (onWord (fitting (s .control .step + 1)) (λ n. passed n s) (refuse StepLimit s))
+    (refuse NoResume s))
+    (refuse NotPaused s))
+    (refuse ListCount s)
+
+-- what the caller is handed: with a log of its own, "the answer counts all events raised"
+pub record Result : Type 0 where
+  pub did : Did
+  pub state : KernelState
+  pub log : List ℕ
+  pub count : ℕ
+
+abbrev pub shown : List ℕ → Answer → Result
+shown log a = record { did = a .did; state = a .state; log = written log (a .events); count = length (a .events) }

@@ -1,0 +1,148 @@
+-- 'Delivery' and 'End of data'.
+use Prim.Native.Nat.{ℕ, zero, suc, _+_}
+use mathlib.Core.Bool.{Bool, true, false}
+use mathlib.Core.List.{List, [], _∷_, map}
+use mathlib.Core.Option.{Option, none, some}
+use lib.ListN.{length}
+use Rattle.numbers.specs.Choice.{pick}
+use Rattle.numbers.specs.Words.{fitting, onWord}
+use Rattle.numbers.specs.Position.{onMoved}
+use Rattle.lists.specs.Lists.{onSome, live, foundIn, takeAt, popped, storeAt, emptied}
+use Rattle.book.specs.Entries.{blankMsg, blankDelivery, blankObs, blankOpen, isOpenOf}
+use Rattle.book.specs.Rows.{msgsRow, msgsOf, deliveriesRow, deliveriesOf, observedRow, observedOf, accountRow, accountOf}
+use Rattle.book.specs.With.{withControl, withMsgs, withDeliveries, withObserved, withAgent, withAccount, withCounters, controlPhase, controlStatus, agentPos, agentDeliveredFills, agentDeliveredLocalRejects, countersEofDroppedMsgs, countersEofDroppedObs}
+use Rattle.book.specs.declared.ExecKind.{ExecKind}
+use Rattle.book.specs.declared.ExecKind.the-variants as exec
+use Rattle.book.specs.declared.MaybeFill.{MaybeFill}
+use Rattle.book.specs.declared.MaybeFill.the-variants as fill
+use Rattle.book.specs.declared.MsgKind.{MsgKind}
+use Rattle.book.specs.declared.MsgKind.the-variants.{Cancel, Activate, Expire}
+use Rattle.book.specs.declared.Origin.{Origin}
+use Rattle.book.specs.declared.Origin.the-variants.{Local, Venue}
+use Rattle.book.specs.declared.ReportRec.{ReportRec}
+use Rattle.book.specs.declared.VenueMsg.{VenueMsg}
+use Rattle.book.specs.declared.account.AgentAccount.{AgentAccount}
+use Rattle.book.specs.declared.state.HaltReason.the-variants.{LedgerOverflow, CounterOverflow}
+use Rattle.book.specs.declared.state.KernelEvent.{KernelEvent}
+use Rattle.book.specs.declared.state.KernelEvent.the-variants.{Delivered, EndOfData, DroppedMsg, DroppedExpiry}
+use Rattle.book.specs.declared.state.KernelState.{KernelState}
+use Rattle.book.specs.declared.state.Phase.the-variants as phase
+use Rattle.book.specs.declared.state.Status.the-variants as status
+use Rattle.rules.specs.Run.{Run, ended, ranTo, haltAt, raised, after, andThen, taking}
+use Rattle.rules.specs.Matching.{moved}
+
+-- ---- the agent
+-- "delivery, end counts: counter past 64 bits: 7"
+unfoldable pub countFill : KernelState → Run
+countFill s =
+    onWord (fitting (s .agent .«delivered_fills» + 1))
+    (λ n. ranTo (withAgent s (agentDeliveredFills (s .agent) n)))
+    (haltAt CounterOverflow s)
+
+-- "moves the agent's position by the fill's record and counts the fill (neither without a record)";
+-- "delivery, after its event: fill above 2^63 − 1, or agent position out of range: 5"
+abbrev pub moveAgent : MaybeFill → KernelState → Run
+moveAgent fill.None s = ranTo s
+moveAgent (fill.Some f) s =
+    onMoved (moved (f .side) (s .agent .pos) (f .qty))
+    (λ p. countFill (withAgent s (agentPos (s .agent) p)))
+    (haltAt LedgerOverflow s)
+
+abbrev pub isLocal : Origin → Bool
+isLocal Local = true
+isLocal Venue = false
+
+abbrev pub isRejected : ExecKind → Bool
+isRejected exec.Accepted = false
+isRejected exec.Rejected = true
+isRejected exec.Canceled = false
+isRejected exec.CancelRejected = false
+isRejected exec.PartialFill = false
+isRejected exec.Fill = false
+
+-- "counts a Rejected of origin Local"
+unfoldable pub countReject : ReportRec → KernelState → Run
+countReject r s =
+    pick (isRejected (r .kind))
+    (pick (isLocal (r .origin))
+    (onWord (fitting (s .agent .«delivered_local_rejects» + 1))
+    (λ n. ranTo (withAgent s (agentDeliveredLocalRejects (s .agent) n)))
+    (haltAt CounterOverflow s))
+    (ranTo s))
+    (ranTo s)
+
+-- ---- the account
+pub data Effect : Type 0 where
+  stands : Effect
+  closes : Effect
+  awaits : Effect
+
+-- "CancelRejected or a local Rejected closes it; Canceled, Fill or a venue Rejected too, unless cancel_pending, which marks it awaiting."
+abbrev pub effect : ExecKind → Origin → Bool → Effect
+effect exec.Accepted w pending = stands
+effect exec.Rejected Local pending = closes
+effect exec.Rejected Venue pending = pick pending awaits closes
+effect exec.Canceled w pending = pick pending awaits closes
+effect exec.CancelRejected w pending = closes
+effect exec.PartialFill w pending = stands
+effect exec.Fill w pending = pick pending awaits closes
+
+abbrev pub affected : Effect → ℕ → ℕ → AgentAccount → AgentAccount
+affected stands id i a = a
+affected closes id i a = accountOf (takeAt 8 blankOpen i (accountRow a) .list)
+affected awaits id i a = accountOf (storeAt 8 i (record { «order_id» = id; «awaiting_cancel_outcome» = true }) (accountRow a) .list)
+
+-- "then turns to the first account entry of that order"
+unfoldable pub onDelivery : ReportRec → AgentAccount → AgentAccount
+onDelivery r a =
+    onSome (foundIn (isOpenOf (r .«order_id»)) (live 8 (accountRow a)))
+    (λ i. affected (effect (r .kind) (r .origin) (r .«cancel_pending»)) (r .«order_id») i a)
+    a
+
+-- ---- "Delivery writes delivered, .."
+unfoldable pub deliverNext : KernelState → Run
+deliverNext s =
+    taking (popped 24 blankDelivery (deliveriesRow (s .deliveries)))
+    (λ d l. andThen (raised (Delivered (d .report)) (withDeliveries s (deliveriesOf l))) λ t.
+    andThen (moveAgent (d .fill) t) λ u.
+    andThen (countReject (d .report) u) λ v.
+    ranTo (withAccount v (onDelivery (d .report) (v .account))))
+    (ranTo s)
+
+-- ---- "End of data delivers all, writes each dropped message, empties messages and observations, adds to the two counters, sets its status and Terminal, writes event 6; the clock stands."
+-- n deliveries
+unfoldable pub deliverAll : ℕ → KernelState → Run
+deliverAll zero s = ranTo s
+deliverAll (suc n) s = andThen (deliverNext s) (deliverAll n)
+
+-- "8 dropped message (order, cancel)"; "10 dropped expiry (order)"
+abbrev pub droppedBy : MsgKind → KernelEvent
+droppedBy (Cancel id) = DroppedMsg id true
+droppedBy (Activate o life) = DroppedMsg (o .id) false
+droppedBy (Expire id) = DroppedExpiry id
+
+abbrev pub droppedEvent : VenueMsg → KernelEvent
+droppedEvent m = droppedBy (m .kind)
+
+unfoldable pub emptyQueues : KernelState → KernelState
+emptyQueues s = withObserved (withMsgs s (msgsOf (emptied 16 blankMsg (msgsRow (s .msgs))))) (observedOf (emptied 16 blankObs (observedRow (s .observed))))
+
+-- s with no delivery left, and its counts of messages and observations; the counters are tested in order, the lists empty already
+unfoldable pub closeData : KernelState → Run
+closeData s =
+    let dropped : List VenueMsg = live 16 (msgsRow (s .msgs)) in
+    let t : KernelState = emptyQueues s in
+    after (map droppedEvent dropped)
+    (onWord (fitting (t .counters .«eof_dropped_msgs» + s .msgs .count))
+    (λ m. let u : KernelState = withCounters t (countersEofDroppedMsgs (t .counters) m) in
+    onWord (fitting (u .counters .«eof_dropped_obs» + s .observed .count))
+    (λ n. record {
+      outcome = ended dropped;
+      state = withControl (withCounters u (countersEofDroppedObs (u .counters) n)) (controlStatus (controlPhase (u .control) phase.Terminal) status.EndOfData);
+      events = EndOfData (s .msgs .count) (s .observed .count) ∷ [];
+    })
+    (haltAt CounterOverflow u))
+    (haltAt CounterOverflow t))
+
+unfoldable pub endOfData : KernelState → Run
+endOfData s = andThen (deliverAll (s .deliveries .count) s) closeData

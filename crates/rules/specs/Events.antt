@@ -1,0 +1,114 @@
+-- 'Events': the walk over the three queues.
+use Prim.Native.Nat.{ℕ, suc, _+_, _*_, max}
+use mathlib.Core.List.{List, [], _∷_}
+use lib.Dec.{leb}
+use Rattle.numbers.specs.Choice.{pick}
+use Rattle.numbers.specs.declared.MaybeU64.the-variants as u64
+use Rattle.lists.specs.Lists.{onSome, below, popped, entryAt, total}
+use Rattle.book.specs.Entries.{blankMsg, blankDelivery, blankObs}
+use Rattle.book.specs.Rows.{msgsRow, deliveriesRow, observedRow, observedOf}
+use Rattle.book.specs.With.{withControl, withClock, withObserved, withAgent, controlPhase, controlResume, controlStatus, clockNowNs, agentLastObsRow}
+use Rattle.book.specs.declared.MsgKind.{MsgKind}
+use Rattle.book.specs.declared.MsgKind.the-variants.{Cancel, Activate, Expire}
+use Rattle.book.specs.declared.VenueMsg.{VenueMsg}
+use Rattle.book.specs.declared.config.Config.{Config}
+use Rattle.book.specs.declared.state.KernelEvent.the-variants.{Observed}
+use Rattle.book.specs.declared.state.KernelState.{KernelState}
+use Rattle.book.specs.declared.state.Phase.the-variants as phase
+use Rattle.book.specs.declared.state.Status.the-variants as status
+use Rattle.rules.specs.Run.{Run, left, ranTo, taking, Turn, again, last, iter}
+use Rattle.rules.specs.Messages.{applyNextMsg}
+use Rattle.rules.specs.Delivery.{deliverNext}
+
+-- ---- an observation
+-- s without the observation of that row. "A pause sets `last_obs_row`, writes observed, saves the phase in `resume`, and the phase becomes AwaitDecision."
+abbrev pub pauses : ℕ → KernelState → Run
+pauses row s = record {
+  outcome = left;
+  state =
+      withAgent
+      (withControl s (controlPhase (controlResume (s .control) (s .control .phase)) phase.AwaitDecision))
+      (agentLastObsRow (s .agent) (u64.Some row));
+  events = Observed row (s .clock .«now_ns») ∷ [];
+}
+
+-- "`step` at or above `s_max`: Truncated, Terminal."
+abbrev pub truncates : KernelState → KernelState
+truncates s = withControl s (controlStatus (controlPhase (s .control) phase.Terminal) status.Truncated)
+
+-- "At `s_max` the observation is removed unseen."
+unfoldable pub popObservation : Config → KernelState → Run
+popObservation c s =
+    taking (popped 16 blankObs (observedRow (s .observed)))
+    (λ e l. let t : KernelState = withObserved s (observedOf l) in
+    pick (leb (c .«s_max») (s .control .step))
+    (record { outcome = left; state = truncates t; events = [] })
+    (pauses (e .row) t))
+    (ranTo s)
+
+-- ---- which event is next
+pub data Class : Type 0 where
+  venue : Class
+  delivery : Class
+  observation : Class
+
+pub data Next : Type 0 where
+  nothing : Next
+  next : Class → ℕ → Next
+
+-- an event at or below the limit
+unfoldable pub dueBy : ℕ → Class → ℕ → Next
+dueBy limit k t = pick (leb t limit) (next k t) nothing
+
+-- the first entry of each list, if it is due
+unfoldable pub nextMsg : ℕ → KernelState → Next
+nextMsg limit s = onSome (entryAt 16 blankMsg 0 (msgsRow (s .msgs))) (λ m. dueBy limit venue (m .«eff_ns»)) nothing
+
+unfoldable pub nextDelivery : ℕ → KernelState → Next
+nextDelivery limit s = onSome (entryAt 24 blankDelivery 0 (deliveriesRow (s .deliveries))) (λ d. dueBy limit delivery (d .«at_ns»)) nothing
+
+unfoldable pub nextObservation : ℕ → KernelState → Next
+nextObservation limit s = onSome (entryAt 16 blankObs 0 (observedRow (s .observed))) (λ e. dueBy limit observation (e .«ready_ns»)) nothing
+
+-- the earlier of two, at equal times the first
+unfoldable pub sooner : Next → Next → Next
+sooner nothing n = n
+sooner (next k t) nothing = next k t
+sooner (next k t) (next j u) = pick (leb t u) (next k t) (next j u)
+
+-- "The least time at or below the limit goes first; at equal times venue, then delivery, then observation."
+unfoldable pub nextOf : ℕ → KernelState → Next
+nextOf limit s = sooner (nextMsg limit s) (sooner (nextDelivery limit s) (nextObservation limit s))
+
+-- ---- the walk
+-- "`now_ns` rises to its time first and never falls."
+abbrev pub clockTo : ℕ → KernelState → KernelState
+clockTo t s = withClock s (clockNowNs (s .clock) (max t (s .clock .«now_ns»)))
+
+abbrev pub handle : Config → Class → KernelState → Run
+handle c venue s = applyNextMsg c s
+handle c delivery s = deliverNext s
+handle c observation s = popObservation c s
+
+abbrev pub turnOn : Config → Next → KernelState → Turn
+turnOn c nothing s = last (ranTo s)
+turnOn c (next k t) s = again (handle c k (clockTo t s))
+
+unfoldable pub eventTurn : Config → ℕ → KernelState → Turn
+eventTurn c limit s = turnOn c (nextOf limit s) s
+
+-- more than the turns that are left: a message makes a delivery, and an activation an expiry too
+abbrev pub extraKind : MsgKind → ℕ
+extraKind (Cancel id) = 0
+extraKind (Activate o life) = 2
+extraKind (Expire id) = 0
+
+abbrev pub extra : VenueMsg → ℕ
+extra m = extraKind (m .kind)
+
+unfoldable pub weight : KernelState → ℕ
+weight s = 2 * s .msgs .count + total extra (below (msgsRow (s .msgs))) + s .deliveries .count + s .observed .count
+
+-- "The walk is left from inside as soon as an observation pauses it or truncates."
+unfoldable pub runEvents : Config → ℕ → KernelState → Run
+runEvents c limit s = iter (eventTurn c limit) (suc (weight s)) s

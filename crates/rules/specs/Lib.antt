@@ -1,0 +1,12 @@
+pub mod Run
+pub mod Log
+pub mod Phases
+pub mod Events
+pub mod Messages
+pub mod Report
+pub mod Matching
+pub mod Delivery
+pub mod Generator
+pub mod Calls
+pub mod Examples
+pub mod Conservation

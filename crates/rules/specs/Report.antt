@@ -1,0 +1,80 @@
+-- 'Report': stamps, delays, and a report with its delivery.
+use Prim.Native.Nat.{ℕ, _+_, _*_, max}
+use mathlib.Core.Bool.{Bool, false}
+use Rattle.numbers.specs.Words.{fitting, onWord}
+use Rattle.numbers.specs.declared.MaybeU64.{MaybeU64}
+use Rattle.numbers.specs.declared.MaybeU64.the-variants.{None}
+use Rattle.lists.specs.Lists.{pushed}
+use Rattle.book.specs.Rows.{deliveriesRow, deliveriesOf}
+use Rattle.book.specs.With.{withSeqs, withClock, withRngLatency, withDeliveries, seqsStampSeq, clockLastDeliveryNs}
+use Rattle.book.specs.declared.Delivery.{Delivery}
+use Rattle.book.specs.declared.ExecKind.{ExecKind}
+use Rattle.book.specs.declared.MaybeFill.{MaybeFill}
+use Rattle.book.specs.declared.Origin.the-variants.{Venue}
+use Rattle.book.specs.declared.ReportRec.{ReportRec}
+use Rattle.book.specs.declared.VenueOrder.{VenueOrder}
+use Rattle.book.specs.declared.config.Config.{Config}
+use Rattle.book.specs.declared.state.HaltReason.the-variants.{TimeOverflow, CounterOverflow}
+use Rattle.book.specs.declared.state.KernelEvent.the-variants.{Report}
+use Rattle.book.specs.declared.state.KernelState.{KernelState}
+use Rattle.rules.specs.Run.{Run, ranTo, haltAt, raised, andThen, putting}
+use Rattle.rules.specs.Generator.{Draw, draw}
+
+-- "A stamp is `now_ns` and `stamp_seq`, which then rises." The stamp is read off the state before this. "`stamp_seq` at maximum: 7"
+unfoldable pub stamp : KernelState → Run
+stamp s =
+    onWord (fitting (s .seqs .«stamp_seq» + 1))
+    (λ n. ranTo (withSeqs s (seqsStampSeq (s .seqs) n)))
+    (haltAt CounterOverflow s)
+
+-- "Delay is (base + jitter) times `quantum_ns`", after a time: none where "sum, product or time past 64 bits"
+unfoldable pub delayedTime : ℕ → ℕ → ℕ → ℕ → MaybeU64
+delayedTime from base jitter quantum =
+    onWord (fitting (base + jitter))
+    (λ quanta. onWord (fitting (quanta * quantum)) (λ ns. fitting (from + ns)) None)
+    None
+
+-- a delay's jitter is drawn first: the generator with the time
+pub record Delay : Type 0 where
+  pub rng : ℕ
+  pub time : MaybeU64
+
+unfoldable pub delay : Config → ℕ → ℕ → ℕ → Delay
+delay c rng from base =
+    let d : Draw = draw rng (c .«jitter_q») in
+    record { rng = d .rng; time = delayedTime from base (d .value) (c .«quantum_ns») }
+
+-- k at the time that is the delay after `from`; "delay, generator already moved: 6"
+unfoldable pub delayed : Config → ℕ → ℕ → KernelState → (ℕ → KernelState → Run) → Run
+delayed c from base s k =
+    let d : Delay = delay c (s .«rng_latency») from base in
+    let t : KernelState = withRngLatency s (d .rng) in
+    onWord (d .time) (λ at. k at t) (haltAt TimeOverflow t)
+
+unfoldable pub pushDelivery : Delivery → KernelState → Run
+pushDelivery d s = putting (pushed 24 d (deliveriesRow (s .deliveries))) (λ l. withDeliveries s (deliveriesOf l)) s
+
+-- "Delivery time is its ts plus the delay from `ack_q`, never below `last_delivery_ns`, which takes it. The report event precedes the push.
+-- A delivery holds its time, the report and, for a match only, the fill's record."
+unfoldable pub queueDelivery : Config → ReportRec → MaybeFill → KernelState → Run
+queueDelivery c r f s =
+    delayed c (r .«ts_ns») (c .«ack_q») s λ at t.
+    let when : ℕ = max at (t .clock .«last_delivery_ns») in
+    andThen (raised (Report r) (withClock t (clockLastDeliveryNs (t .clock) when)))
+    (pushDelivery (record { «at_ns» = when; report = r; fill = f }))
+
+-- "Origin is Venue, cum the order's filled, last the fill or 0": the report on an order, stamped at s
+abbrev pub reportOn : KernelState → VenueOrder → ExecKind → Bool → ℕ → ReportRec
+reportOn s o k pending lots = record {
+  «ts_ns» = s .clock .«now_ns»;
+  seq = s .seqs .«stamp_seq»;
+  «order_id» = o .id;
+  side = o .side;
+  kind = k;
+  origin = Venue;
+  «cancel_pending» = pending;
+  price = o .price;
+  qty = o .qty;
+  last = lots;
+  cum = o .filled;
+}

@@ -229,7 +229,7 @@ module _ {A : Type 0} (p : A → Bool) where
   unfolding foundIn before pick
   found-nil = refl
 
-at-place : {A : Type 0} (n : ℕ) (s : List A) (i : ℕ) (d : A) → i < n → n ≤ length s → drop i (take n s) ≡ getD s i d ∷ drop (suc i) (take n s)
+pub at-place : {A : Type 0} (n : ℕ) (s : List A) (i : ℕ) (d : A) → i < n → n ≤ length s → drop i (take n s) ≡ getD s i d ∷ drop (suc i) (take n s)
 at-place n s i d h k = drop-cons (take n s) i d (rw length-take-le (omega arith)) ∙ rw getD-take
 
 module _ {A : Type 0} {d : A} {p : A → Bool} {n : ℕ} {s : List A} where

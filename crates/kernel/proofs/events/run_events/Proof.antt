@@ -1,0 +1,83 @@
+-- `kernel::events::run_events` meets its contract: the walk from here gives what the whole walk gives. Assumes nothing.
+use mathlib.Core.Path.{_≡_, refl, _∙_}
+use lib.ListN.{length}
+use Rattle.book.specs.With.{withClock, clockNowNs}
+use Rattle.book.specs.declared.state.KernelState.{KernelState}
+use Rattle.rules.specs.Events.{runEvents, weight}
+use Rattle.kernel.specs.Log.{logAt, played}
+use Rattle.kernel.specs.Delivery.{handedIn}
+use Rattle.kernel.specs.Events.{lookedIn}
+use Rattle.kernel.specs.declared.events.Class.the-variants.{Venue, Delivery, Observation}
+use Rattle.kernel.proofs.EventsWays.{walk-done, walk-goes, walk-stops, walk-falls}
+use borrow.Author.Needs.{needs}
+use Rattle.kernel.proofs.events.run_events.Statement.{statement}
+use Rattle.kernel.proofs.events.run_events.Tie as tie
+
+abbrev Inv-loop : tie.InvT-loop
+Inv-loop log₀ raised cfg until s₀ n₀ log s n = (length log ≡ length log₀) × (played (logAt log n) (runEvents cfg until s) ≡ played (logAt log₀ n₀) (runEvents cfg until s₀))
+
+abbrev μ-loop : tie.MeasureT-loop
+μ-loop log₀ raised cfg until s₀ n₀ log s n = weight s
+
+pub run-events-spec : {M : Type 1} → statement M
+run-events-spec =
+    tie.close (tie.spec Inv-loop μ-loop
+    (λ c. (refl, refl))
+    (λ c κs. search needs)
+    (λ c. search needs)
+    (λ c. search needs)
+    (λ c κs. search needs)
+    (λ c. search needs)
+    (λ c κs. search needs)
+    (λ c. search needs)
+    (λ c. let b = c .before .before .before .before .before in let d = b .before .before in let e = d .before .before .before in let f = e .before .before in let g = f .before .before in let h = g .before .before .before .before in let i = h .before .before in
+    walk-falls (i .args .cfg) (i .args .until) (h .loop .s) (g .next-of .result) (g .next-of .ensures (h .loop .s)) _ _ _ _ (f .next .given .1) Venue (e .max .result) (d .enum-told2 .given .1) (e .max .ensures)
+    (b .apply-next-msg .result) _ (b .apply-next-msg .ensures) (c .enum-told3 .given .1))
+    (λ c. let b = c .before .before .before .before .before in let d = b .before .before in let e = d .before .before .before in let f = e .before .before in let g = f .before .before in let h = g .before .before .before .before in let i = h .before .before in (
+      b .apply-next-msg .kept .0 ∙ h .loop .inv .0,
+      walk-goes (i .args .cfg) (i .args .until) (h .loop .s) (g .next-of .result) (g .next-of .ensures (h .loop .s)) _ _ _ _ (f .next .given .1) Venue (e .max .result) (d .enum-told2 .given .1) (e .max .ensures)
+          (b .apply-next-msg .result) _ (b .apply-next-msg .ensures) (c .enum-told3 .given .1) ∙ h .loop .inv .1,
+    ))
+    (λ c. search needs)
+    (λ c κs. search needs)
+    (λ c. search needs)
+    (λ c. let b = c .before .before .before .before .before .before .before in let d = b .before .before .before .before in let e = d .before .before .before in let f = e .before .before in let g = f .before .before in let h = g .before .before .before .before in let i = h .before .before in
+    let u : KernelState = withClock (h .loop .s) (clockNowNs (h .loop .s .clock) (e .max .result)) in
+    walk-falls (i .args .cfg) (i .args .until) (h .loop .s) (g .next-of .result) (g .next-of .ensures (h .loop .s)) _ _ _ _ (f .next .given .1) Delivery (e .max .result) (d .enum-told4 .given .1) (e .max .ensures)
+    (handedIn u (b .deliver-next .result)) _ (b .deliver-next .ensures u) (c .enum-told5 .given .1))
+    (λ c. let b = c .before .before .before .before .before .before .before in let d = b .before .before .before .before in let e = d .before .before .before in let f = e .before .before in let g = f .before .before in let h = g .before .before .before .before in let i = h .before .before in
+    let u : KernelState = withClock (h .loop .s) (clockNowNs (h .loop .s .clock) (e .max .result)) in (
+      b .deliver-next .kept .0 ∙ h .loop .inv .0,
+      walk-goes (i .args .cfg) (i .args .until) (h .loop .s) (g .next-of .result) (g .next-of .ensures (h .loop .s)) _ _ _ _ (f .next .given .1) Delivery (e .max .result) (d .enum-told4 .given .1) (e .max .ensures)
+          (handedIn u (b .deliver-next .result)) _ (b .deliver-next .ensures u) (c .enum-told5 .given .1) ∙ h .loop .inv .1,
+    ))
+    (λ c. search needs)
+    (λ c κs. search needs)
+    (λ c. search needs)
+    (λ c. let b = c .before .before .before .before .before .before .before in let d = b .before .before .before .before in let e = d .before .before .before in let f = e .before .before in let g = f .before .before in let h = g .before .before .before .before in let i = h .before .before in
+    walk-falls (i .args .cfg) (i .args .until) (h .loop .s) (g .next-of .result) (g .next-of .ensures (h .loop .s)) _ _ _ _ (f .next .given .1) Observation (e .max .result) (d .enum-told6 .given .1) (e .max .ensures)
+    (lookedIn (h .loop .s) (e .max .result) (b .pop-observation .result)) _ (b .pop-observation .ensures (h .loop .s)) (c .enum-told7 .given .1))
+    (λ c. let b = c .before .before .before .before .before .before .before in let d = b .before .before .before .before in let e = d .before .before .before in let f = e .before .before in let g = f .before .before in let h = g .before .before .before .before in let i = h .before .before in (
+      b .pop-observation .kept .0 ∙ h .loop .inv .0,
+      walk-goes (i .args .cfg) (i .args .until) (h .loop .s) (g .next-of .result) (g .next-of .ensures (h .loop .s)) _ _ _ _ (f .next .given .1) Observation (e .max .result) (d .enum-told6 .given .1) (e .max .ensures)
+          (lookedIn (h .loop .s) (e .max .result) (b .pop-observation .result)) _ (b .pop-observation .ensures (h .loop .s)) (c .enum-told7 .given .1) ∙ h .loop .inv .1,
+    ))
+    (λ c. c .before .before .before .before .before .before .loop .inv .0)
+    (λ c. let b = c .before .before .before .before .before .before in let d = b .before .before in
+    walk-done (d .args .cfg) (d .args .until) (b .loop .s) (c .before .before .next-of .result) (c .before .before .next-of .ensures (b .loop .s)) _ _ (c .enum-told .given .1) ∙ b .loop .inv .1)
+    (λ c. let b = c .before .before .before .before in let d = b .before .before .before .before .before .before .before .before .before .before .before .before .before in
+    b .apply-next-msg .kept .0 ∙ d .loop .inv .0)
+    (λ c. let b = c .before .before .before .before in let d = b .before .before in let e = d .before .before .before in let f = e .before .before in let g = f .before .before in let h = g .before .before .before .before in let i = h .before .before in
+    walk-stops (i .args .cfg) (i .args .until) (h .loop .s) (g .next-of .result) (g .next-of .ensures (h .loop .s)) _ _ _ _ (f .next .given .1) Venue (e .max .result) (d .enum-told2 .given .1) (e .max .ensures)
+    (b .apply-next-msg .result) _ (b .apply-next-msg .ensures) (c .match3 .keys2) ∙ h .loop .inv .1)
+    (λ c. let b = c .before .before .before .before .before .before in let d = b .before .before .before .before .before .before .before .before .before .before .before .before .before .before .before in
+    b .deliver-next .kept .0 ∙ d .loop .inv .0)
+    (λ c. let b = c .before .before .before .before .before .before in let d = b .before .before .before .before in let e = d .before .before .before in let f = e .before .before in let g = f .before .before in let h = g .before .before .before .before in let i = h .before .before in
+    let u : KernelState = withClock (h .loop .s) (clockNowNs (h .loop .s .clock) (e .max .result)) in
+    walk-stops (i .args .cfg) (i .args .until) (h .loop .s) (g .next-of .result) (g .next-of .ensures (h .loop .s)) _ _ _ _ (f .next .given .1) Delivery (e .max .result) (d .enum-told4 .given .1) (e .max .ensures)
+    (handedIn u (b .deliver-next .result)) _ (b .deliver-next .ensures u) (c .match4 .keys2) ∙ h .loop .inv .1)
+    (λ c. let b = c .before .before .before .before .before .before in let d = b .before .before .before .before .before .before .before .before .before .before .before .before .before .before .before in
+    b .pop-observation .kept .0 ∙ d .loop .inv .0)
+    (λ c. let b = c .before .before .before .before .before .before in let d = b .before .before .before .before in let e = d .before .before .before in let f = e .before .before in let g = f .before .before in let h = g .before .before .before .before in let i = h .before .before in
+    walk-stops (i .args .cfg) (i .args .until) (h .loop .s) (g .next-of .result) (g .next-of .ensures (h .loop .s)) _ _ _ _ (f .next .given .1) Observation (e .max .result) (d .enum-told6 .given .1) (e .max .ensures)
+    (lookedIn (h .loop .s) (e .max .result) (b .pop-observation .result)) _ (b .pop-observation .ensures (h .loop .s)) (c .match5 .keys2) ∙ h .loop .inv .1))

@@ -1,0 +1,19 @@
+-- `kernel::phases::queue_observation` meets its contract, by the laws of `PhasesWays`. Assumes nothing.
+use borrow.Author.Tests.{not-true, not-false}
+use Rattle.kernel.proofs.PhasesWays.{obs-late, obs-full, obs-in}
+use borrow.Author.Needs.{needs}
+use Rattle.kernel.proofs.phases.queue_observation.Statement.{statement}
+use Rattle.kernel.proofs.phases.queue_observation.Tie as tie
+
+pub queue-observation-spec : {M : Type 1} → statement M
+queue-observation-spec =
+    tie.close (tie.spec
+    (λ c κs. search needs)
+    (λ c. search needs)
+    (λ c. search needs)
+    (λ c. λ s n w. obs-late w n _ _ _ _ _ _ _ (c .before .before .delayed .result) (c .before .before .delayed .ensures) (c .enum-told .given .1) s)
+    (λ c κs. search needs)
+    (λ c κs. search needs)
+    (λ c. λ s n w. obs-full w n _ _ _ _ _ _ _ (c .before .before .before .before .before .before .before .delayed .result) (c .before .before .before .before .before .before .before .delayed .ensures) _ _ (c .before .before .push .result) (c .before .before .before .before .before .time .given .1) (c .before .before .before .max .ensures) (c .before .before .push .ensures) (not-true _ (c .if1 .taken)) s)
+    (λ c κs. search needs)
+    (λ c. λ s n w. obs-in w n _ _ _ _ _ _ _ (c .before .before .before .before .before .before .before .before .before .delayed .result) (c .before .before .before .before .before .before .before .before .before .delayed .ensures) _ _ (c .before .before .before .before .push .result) (c .before .before .before .before .before .before .before .time .given .1) (c .before .before .before .before .before .max .ensures) (c .before .before .before .before .push .ensures) (not-false _ (c .before .before .if1 .left)) _ (c .in-phase .ensures) s))

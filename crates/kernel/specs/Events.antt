@@ -1,0 +1,42 @@
+-- The next event as the rules say it, and the parts of the state that an observation changes.
+use Prim.Native.Nat.{ℕ}
+use Rattle.book.specs.With.{withControl, withClock, withMsgs, withDeliveries, withObserved, withAgent, controlPhase, controlResume, controlStatus, clockNowNs}
+use Rattle.book.specs.declared.deliveries.Deliveries.{Deliveries}
+use Rattle.book.specs.declared.msgs.Msgs.{Msgs}
+use Rattle.book.specs.declared.observed.Observed.{Observed}
+use Rattle.book.specs.declared.state.AgentView.{AgentView}
+use Rattle.book.specs.declared.state.Control.{Control}
+use Rattle.book.specs.declared.state.KernelState.{KernelState}
+use Rattle.book.specs.declared.state.Phase.the-variants as phase
+use Rattle.book.specs.declared.state.Status.the-variants as status
+use Rattle.rules.specs.Events as walk
+use Rattle.kernel.specs.declared.Step.{Step}
+use Rattle.kernel.specs.declared.events.Class.{Class}
+use Rattle.kernel.specs.declared.events.Class.the-variants as class
+use Rattle.kernel.specs.declared.events.Next.{Next}
+use Rattle.kernel.specs.declared.events.Next.the-variants as next
+use Rattle.kernel.specs.declared.events.Looked.{Looked}
+
+abbrev pub classTold : Class → walk.Class
+classTold class.Venue = walk.venue
+classTold class.Delivery = walk.delivery
+classTold class.Observation = walk.observation
+
+abbrev pub nextTold : Next → walk.Next
+nextTold next.Nothing = walk.nothing
+nextTold (next.At k t) = walk.next (classTold k) t
+
+abbrev pub withQueues : KernelState → Msgs → Deliveries → Observed → KernelState
+withQueues s m d o = withObserved (withDeliveries (withMsgs s m) d) o
+
+abbrev pub truncated : Control → Control
+truncated c = controlStatus (controlPhase c phase.Terminal) status.Truncated
+
+abbrev pub pausedAt : Control → Control
+pausedAt c = controlPhase (controlResume c (c .phase)) phase.AwaitDecision
+
+abbrev pub withLooked : KernelState → ℕ → Control → Observed → AgentView → KernelState
+withLooked s now c o a = withAgent (withObserved (withControl (withClock s (clockNowNs (s .clock) now)) c) o) a
+
+abbrev pub lookedIn : KernelState → ℕ → Looked → Step
+lookedIn s now l = record { outcome = l .outcome; state = withLooked s now (l .control) (l .observed) (l .agent); raised = l .raised }

@@ -1,0 +1,213 @@
+// The kernel: `advance` and `pass` (step.rs of the Rust). A state goes in by value and comes back; inside, a function that runs on every row takes the parts that it changes.
+mod delivery;
+mod events;
+mod log;
+mod matching;
+mod messages;
+mod phases;
+mod report;
+
+use book::config::Config;
+use book::state::Control;
+use book::state::HaltReason;
+use book::state::KernelEvent;
+use book::state::KernelState;
+use book::state::Phase;
+use book::state::Refusal;
+use book::state::Status;
+use log::emit;
+use numbers::MaybeU64;
+use numbers::words::checked_add;
+use phases::run_phases;
+ghost use mathlib.Core.Path.{_≡_};
+ghost use Rattle.rules.specs.Log.{written};
+ghost use Rattle.rules.specs.Calls.{advance, pass, halted, countsFit, isPaused, canResume};
+ghost use Rattle.kernel.specs.Told.{advanceTold, passTold};
+
+// How a step went: to its end; left by an observation that paused or truncated; halted; or at the end of the data.
+pub enum Outcome {
+    Ran,
+    Left,
+    Halt(HaltReason),
+    Ended,
+}
+
+// What a step over the whole state gives: how it went, the state, and how many events the call has raised so far.
+pub struct Step {
+    pub outcome: Outcome,
+    pub state: KernelState,
+    pub raised: u64,
+}
+
+// Whether a call ran, or why it was refused.
+pub enum Answer {
+    Ran,
+    Refused(Refusal),
+}
+
+// What `advance` answers, with the count of all events raised.
+pub struct Advanced {
+    pub answer: Answer,
+    pub state: KernelState,
+    pub events: u64,
+}
+
+pub struct Passed {
+    pub answer: Answer,
+    pub state: KernelState,
+}
+
+fn counts_fit(s: KernelState) -> bool
+    ensures { λ r. ⌜ r ≡ countsFit s ⌝ }
+{
+    if s.orders.count > 8 {
+        return false;
+    }
+    if s.msgs.count > 16 {
+        return false;
+    }
+    if s.awaiting.count > 8 {
+        return false;
+    }
+    if s.deliveries.count > 24 {
+        return false;
+    }
+    if s.observed.count > 16 {
+        return false;
+    }
+    if s.account.count > 8 {
+        return false;
+    }
+    true
+}
+
+// Runs until the next decision or the end of the run.
+pub fn advance(cfg: Config, rows: &[u64], state: KernelState, log: &mut [u64]) -> Advanced
+    ensures { λ r. ⌜ r ≡ advanceTold (advance cfg (now (rows .entry)) state) ⌝ }
+    ensures { λ r. ⌜ now (log .exit) ≡ written (now (log .entry)) (advance cfg (now (rows .entry)) state .events) ⌝ }
+{
+    if rows.len() % 5 != 0 {
+        return Advanced {
+            answer: Answer::Refused(Refusal::RowWords),
+            state,
+            events: 0,
+        };
+    }
+    if !counts_fit(state) {
+        return Advanced {
+            answer: Answer::Refused(Refusal::ListCount),
+            state,
+            events: 0,
+        };
+    }
+    let a = run_phases(log, cfg, rows, state);
+    let o = a.outcome;
+    let s = a.state;
+    let Outcome::Halt(reason) = o else {
+        return Advanced {
+            answer: Answer::Ran,
+            state: s,
+            events: a.raised,
+        };
+    };
+    let halted = halt(s, reason);
+    let n = emit(log, a.raised, KernelEvent::Halted(reason));
+    Advanced {
+        answer: Answer::Ran,
+        state: halted,
+        events: n,
+    }
+}
+
+// Stops the run.
+fn halt(s: KernelState, reason: HaltReason) -> KernelState
+    ensures { λ r. ⌜ r ≡ halted reason s ⌝ }
+{
+    let c = s.control;
+    let resume = c.resume;
+    let cur_row = c.cur_row;
+    let control = Control {
+        phase: Phase::Terminal,
+        resume,
+        cursor: c.cursor,
+        cur_row,
+        step: c.step,
+        status: Status::Halted(reason),
+    };
+    let mut t = s;
+    t.control = control;
+    t.counters.halts = 1;
+    t
+}
+
+fn is_paused(phase: Phase) -> bool
+    ensures { λ r. ⌜ r ≡ isPaused phase ⌝ }
+{
+    match phase {
+        Phase::BeforeMatch => false,
+        Phase::ObsQueued => false,
+        Phase::AwaitDecision => true,
+        Phase::Terminal => false,
+    }
+}
+
+fn can_resume(phase: Phase) -> bool
+    ensures { λ r. ⌜ r ≡ canResume phase ⌝ }
+{
+    match phase {
+        Phase::BeforeMatch => true,
+        Phase::ObsQueued => true,
+        Phase::AwaitDecision => false,
+        Phase::Terminal => false,
+    }
+}
+
+// No action at a pause.
+pub fn pass(state: KernelState) -> Passed
+    ensures { λ r. ⌜ r ≡ passTold (pass state) ⌝ }
+{
+    if !counts_fit(state) {
+        return Passed {
+            answer: Answer::Refused(Refusal::ListCount),
+            state,
+        };
+    }
+    let c = state.control;
+    let phase = c.phase;
+    if !is_paused(phase) {
+        return Passed {
+            answer: Answer::Refused(Refusal::NotPaused),
+            state,
+        };
+    }
+    let resume = c.resume;
+    if !can_resume(resume) {
+        return Passed {
+            answer: Answer::Refused(Refusal::NoResume),
+            state,
+        };
+    }
+    let next = checked_add(c.step, 1);
+    let MaybeU64::Some(step) = next else {
+        return Passed {
+            answer: Answer::Refused(Refusal::StepLimit),
+            state,
+        };
+    };
+    let cur_row = c.cur_row;
+    let status = c.status;
+    let control = Control {
+        phase: resume,
+        resume,
+        cursor: c.cursor,
+        cur_row,
+        step,
+        status,
+    };
+    let mut s = state;
+    s.control = control;
+    Passed {
+        answer: Answer::Ran,
+        state: s,
+    }
+}

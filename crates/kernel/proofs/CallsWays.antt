@@ -29,6 +29,7 @@ use Rattle.kernel.specs.declared.Answer.the-variants as answer
 use Rattle.kernel.specs.declared.Advanced.{Advanced}
 use Rattle.kernel.specs.declared.Step.{Step}
 use Rattle.kernel.proofs.Notes.{noted-append, noted-all}
+use Rattle.kernel.proofs.Then.{state-is}
 
 -- ---- refused
 pub refused-words : (cfg : Config) (rows log : List ℕ) (s : KernelState) → eqb (length rows % 5) 0 ≡ false
@@ -51,10 +52,6 @@ module _ (log : List ℕ) (r : rules.Run) (a : Step) (w : List ℕ) (e : seen a 
   unfolding played
   outcome-is = ap (λ (x : Seen). x .outcome) e
 
-  state-is : a .state ≡ r .state
-  unfolding played
-  state-is = ap (λ (x : Seen). x .state) e
-
   log-is : logAt w (a .raised) ≡ noted (logAt log 0) (r .events)
   unfolding played
   log-is = ap (λ (x : Seen). x .log) e
@@ -71,7 +68,7 @@ module _ (log : List ℕ) (r : rules.Run) (a : Step) (w : List ℕ) (e : seen a 
   answered b m = go (r .outcome) refl (subst (λ (o : Outcome). OneOf (0 ∷ 1 ∷ 3 ∷ []) (tagOf Rattle.kernel.proofs.Outcome.the-type o)) outcome-is m) b
     where
       went : length (r .events) < 2 ^ 64 - 1 → (gave (a .state) (a .raised) ≡ gave (r .state) (length (r .events))) × (w ≡ written log (r .events))
-      went b = let h = held w (a .raised) (r .events) b log-is in (rw (state-is, h .0), h .1)
+      went b = let h = held w (a .raised) (r .events) b log-is in (rw (state-is (logAt log 0) r a w e, h .0), h .1)
 
       go : (o : rules.Outcome) → r .outcome ≡ o → OneOf (0 ∷ 1 ∷ 3 ∷ []) (tagOf Rattle.kernel.proofs.Outcome.the-type (told o)) → length (calls.answerOn (r .outcome) (r .state) (r .events) .events) < 2 ^ 64 - 1
           → (gave (a .state) (a .raised) ≡ advanceTold (calls.answerOn (r .outcome) (r .state) (r .events))) × (w ≡ written log (calls.answerOn (r .outcome) (r .state) (r .events) .events))
@@ -91,7 +88,7 @@ module _ (log : List ℕ) (r : rules.Run) (a : Step) (w : List ℕ) (e : seen a 
 
       went : length (r .events ++ Halted h ∷ []) < 2 ^ 64 - 1
           → (gave t n ≡ gave (calls.halted h (r .state)) (length (r .events ++ Halted h ∷ []))) × (v ≡ written log (r .events ++ Halted h ∷ []))
-      went b = let q = held v n (r .events ++ Halted h ∷ []) b both in (rw (t-is, state-is, q .0), q .1)
+      went b = let q = held v n (r .events ++ Halted h ∷ []) b both in (rw (t-is, state-is (logAt log 0) r a w e, q .0), q .1)
 
       go : (o : rules.Outcome) → r .outcome ≡ o → told o ≡ Halt h → length (calls.answerOn (r .outcome) (r .state) (r .events) .events) < 2 ^ 64 - 1
           → (gave t n ≡ advanceTold (calls.answerOn (r .outcome) (r .state) (r .events))) × (v ≡ written log (calls.answerOn (r .outcome) (r .state) (r .events) .events))

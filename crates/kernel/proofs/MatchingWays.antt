@@ -1,24 +1,23 @@
 -- Matching: one law for each way out of a function. Assumes nothing.
-use Prim.Native.Nat.{ℕ, zero, suc, _+_, _-_, _*_, _≤_, _<_}
+use Prim.Native.Nat.{ℕ, suc, _+_, _*_, _≤_, _<_}
 use mathlib.Core.Bool.{Bool, true, false}
-use mathlib.Core.List.{List, [], _∷_, _++_}
+use mathlib.Core.List.{List, [], _∷_}
 use mathlib.Core.Option.{Option, none, some}
 use mathlib.Core.Path.{_≡_, refl, sym, ap, _∙_, subst}
 use native.Mathlib.Omega.{arith}
 use types.Run.{OneOf}
 use denote.Enum.Declared.{tagOf}
-use lib.Dec.{ltb, leb, eqb}
-use borrow.Author.Tests.{eq-eqb, ne-eqb, leb-false}
+use lib.Dec.{eqb}
+use borrow.Author.Tests.{eq-eqb, ne-eqb}
 use Rattle.numbers.specs.Choice.{pick}
 use Rattle.numbers.specs.Words.{fits, fitting, onWord}
 use Rattle.numbers.specs.declared.MaybeU64.{MaybeU64}
 use Rattle.numbers.specs.declared.MaybeU64.the-variants as u64
 use Rattle.lists.specs.Lists.{onSome, entryAt, takeAt, storeAt, putBefore}
 use Rattle.lists.proofs.Cases.{pick-case, some-case}
-use Rattle.rules.proofs.Cases.{word-case}
 use Rattle.book.specs.Entries.{blankOrder, remaining, inState, isTerminal, idAbove}
-use Rattle.book.specs.Rows.{ordersRow, ordersOf, ordersPut, ordersTaken, orderIn}
-use Rattle.book.specs.With.{withOrders, withMsgs, withGate, withCounters, withSeqs, seqsStampSeq, seqsNextExecId, gateMark2, countersVenueFills}
+use Rattle.book.specs.Rows.{ordersRow, ordersPut, ordersTaken, orderIn}
+use Rattle.book.specs.With.{withOrders, withMsgs, withGate, withCounters, seqsStampSeq, seqsNextExecId, gateMark2, countersVenueFills}
 use Rattle.book.specs.declared.ExecKind.{ExecKind}
 use Rattle.book.specs.declared.ExecKind.the-variants as exec
 use Rattle.book.specs.declared.FillRec.{FillRec}
@@ -47,20 +46,20 @@ use Rattle.models.specs.declared.gate.Gated.the-variants.{Fail, Kept}
 use Rattle.rules.specs.Run as rules
 use Rattle.rules.specs.Report.{stamp, queueDelivery}
 use Rattle.rules.specs.Messages.{removeExpiry, await, awaitMarked}
-use Rattle.rules.specs.Matching.{matches, lotsOf, queueFillLots, fillLots, gateFilled, filledBy, fillRecord, fillReport, fillTold, fillAt, matchOrder, matchAt, matchFrom, leave, terminalAt, sweepFrom, sweep, marked, matchRow}
-use Rattle.kernel.specs.Log.{Log, logAt, note, noted, played, seen}
+use Rattle.rules.specs.Matching.{matches, queueFillLots, fillLots, gateFilled, filledBy, fillRecord, fillReport, fillTold, fillAt, matchOrder, matchAt, matchFrom, leave, terminalAt, sweepFrom, sweep, marked, matchRow}
+use Rattle.rules.proofs.HeldMatching.{lots-most}
+use Rattle.kernel.specs.Log.{logAt, note, noted, played, seen}
 use Rattle.kernel.specs.Report.{reportAt, queuedIn, withQueue}
 use Rattle.kernel.specs.Matching.{stampedBy, withVenue, venueIn, fillKind, Fills, none-there, fills, fails, lotsTold, lotsAt, withSwept, sweptIn}
 use Rattle.kernel.specs.declared.Outcome.{Outcome}
 use Rattle.kernel.specs.declared.Outcome.the-variants.{Ran, Halt}
-use Rattle.kernel.specs.declared.Step.{Step}
 use Rattle.kernel.specs.declared.matching.Lots.{Lots}
 use Rattle.kernel.specs.declared.matching.Lots.the-variants as lots
 use Rattle.kernel.specs.declared.matching.Matched.{Matched}
 use Rattle.kernel.specs.declared.matching.Swept.{Swept}
 use Rattle.kernel.specs.declared.matching.Venue.{Venue}
 use Rattle.kernel.specs.declared.report.Queued.{Queued}
-use Rattle.kernel.proofs.Then.{played-ran, played-halt, raised-then, then-ran, then-stop, fits-none, fits-some}
+use Rattle.kernel.proofs.Then.{played-ran, raised-then, then-ran, then-stop, fits-none, fits-some}
 
 -- ---- a fill: the order after it, and its kind
 module _ (o : VenueOrder) (n rest : ℕ) (e : rest ≡ remaining o) where
@@ -172,11 +171,6 @@ module _ (mode : FillMode) (row : KernelTick) (os : Orders) (i : ℕ) (got : May
       lots-take n k z = rw (← e, h, ← em, m, ← el, k, ne-eqb n 0 z)
 
 -- ---- the pass over the orders
-lots-most : (cumulative : ℕ) (o : VenueOrder) → lotsOf cumulative o ≤ remaining o
-unfolding lotsOf
-lots-most x o = pick-case (λ n. n ≤ remaining o) (eqb x 0) _ _ (λ _. omega arith)
-    (λ _. pick-case (λ n. n ≤ remaining o) (leb (o .qty) x) _ _ (λ _. omega arith) (λ e. let h : x < o .qty = leb-false _ _ e in omega arith))
-
 -- what is filled is no more than remains
 Within : Fills → Type 0
 Within none-there = Unit {0}

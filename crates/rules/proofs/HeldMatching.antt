@@ -35,7 +35,7 @@ use Rattle.rules.proofs.Held.{when, over, overLots, nil, Held, Inv, Mid
 use Rattle.rules.proofs.HeldMessages.{report-good, took-order, removed-held}
 
 -- ---- no more than the remaining lots
-lots-most : (cumulative : ℕ) (o : VenueOrder) → lotsOf cumulative o ≤ remaining o
+pub lots-most : (cumulative : ℕ) (o : VenueOrder) → lotsOf cumulative o ≤ remaining o
 unfolding lotsOf
 lots-most x o = pick-case (λ n. n ≤ remaining o) (eqb x 0) _ _ (λ _. omega arith)
     (λ _. pick-case (λ n. n ≤ remaining o) (leb (o .qty) x) _ _ (λ _. omega arith) (λ e. let h : x < o .qty = leb-false _ _ e in omega arith))

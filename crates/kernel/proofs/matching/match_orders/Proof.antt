@@ -12,6 +12,7 @@ use native.Mathlib.Omega.{arith}
 use Rattle.kernel.proofs.matching.match_orders.Statement.{statement}
 use Rattle.kernel.proofs.matching.match_orders.Tie as tie
 
+-- the count stands too deep in the venue for a search to find that it is a number of 64 bits: it is read off the entry once, and kept
 abbrev Inv-loop : tie.InvT-loop
 Inv-loop log₀ raised cfg row count v₀ n₀ i₀ log v n i =
     (i ≤ count) × (count < 2 ^ 64) × (length log ≡ length log₀)

@@ -22,14 +22,14 @@ use Rattle.rules.specs.Phases.{phases}
 use Rattle.rules.specs.Calls as calls
 use Rattle.rules.proofs.Bound.{events-bound}
 use Rattle.kernel.specs.Told.{answerTold, advanceTold}
-use Rattle.kernel.specs.Log.{Log, logAt, note, noted, told, Seen, played, seen}
-use Rattle.kernel.specs.declared.Outcome.{Outcome}
-use Rattle.kernel.specs.declared.Outcome.the-variants.{Ran, Left, Halt, Ended}
+use Rattle.reports.specs.Log.{Log, logAt, note, noted, told, Seen, played, seen}
+use Rattle.reports.specs.declared.Outcome.{Outcome}
+use Rattle.reports.specs.declared.Outcome.the-variants.{Ran, Left, Halt, Ended}
 use Rattle.kernel.specs.declared.Answer.the-variants as answer
 use Rattle.kernel.specs.declared.Advanced.{Advanced}
-use Rattle.kernel.specs.declared.Step.{Step}
-use Rattle.kernel.proofs.Notes.{noted-append, noted-all}
-use Rattle.kernel.proofs.Then.{state-is}
+use Rattle.reports.specs.declared.Step.{Step}
+use Rattle.reports.proofs.Notes.{noted-append, noted-all}
+use Rattle.reports.proofs.Then.{state-is}
 
 -- ---- refused
 pub refused-words : (cfg : Config) (rows log : List ℕ) (s : KernelState) → eqb (length rows % 5) 0 ≡ false
@@ -62,15 +62,15 @@ module _ (log : List ℕ) (r : rules.Run) (a : Step) (w : List ℕ) (e : seen a 
       let q : logAt v n ≡ logAt (written log es) (length es) = h ∙ noted-all log es (omega arith) in
       (ap (λ (l : Log). l .count) q, ap (λ (l : Log). l .words) q)
 
-  pub answered : length (calls.answer r .events) < 2 ^ 64 - 1 → OneOf (0 ∷ 1 ∷ 3 ∷ []) (tagOf Rattle.kernel.proofs.Outcome.the-type (a .outcome))
+  pub answered : length (calls.answer r .events) < 2 ^ 64 - 1 → OneOf (0 ∷ 1 ∷ 3 ∷ []) (tagOf Rattle.reports.proofs.Outcome.the-type (a .outcome))
       → (gave (a .state) (a .raised) ≡ advanceTold (calls.answer r)) × (w ≡ written log (calls.answer r .events))
   unfolding calls.answer
-  answered b m = go (r .outcome) refl (subst (λ (o : Outcome). OneOf (0 ∷ 1 ∷ 3 ∷ []) (tagOf Rattle.kernel.proofs.Outcome.the-type o)) outcome-is m) b
+  answered b m = go (r .outcome) refl (subst (λ (o : Outcome). OneOf (0 ∷ 1 ∷ 3 ∷ []) (tagOf Rattle.reports.proofs.Outcome.the-type o)) outcome-is m) b
     where
       went : length (r .events) < 2 ^ 64 - 1 → (gave (a .state) (a .raised) ≡ gave (r .state) (length (r .events))) × (w ≡ written log (r .events))
       went b = let h = held w (a .raised) (r .events) b log-is in (rw (state-is (logAt log 0) r a w e, h .0), h .1)
 
-      go : (o : rules.Outcome) → r .outcome ≡ o → OneOf (0 ∷ 1 ∷ 3 ∷ []) (tagOf Rattle.kernel.proofs.Outcome.the-type (told o)) → length (calls.answerOn (r .outcome) (r .state) (r .events) .events) < 2 ^ 64 - 1
+      go : (o : rules.Outcome) → r .outcome ≡ o → OneOf (0 ∷ 1 ∷ 3 ∷ []) (tagOf Rattle.reports.proofs.Outcome.the-type (told o)) → length (calls.answerOn (r .outcome) (r .state) (r .events) .events) < 2 ^ 64 - 1
           → (gave (a .state) (a .raised) ≡ advanceTold (calls.answerOn (r .outcome) (r .state) (r .events))) × (w ≡ written log (calls.answerOn (r .outcome) (r .state) (r .events) .events))
       go rules.ran q m b = rw q (went (rw q at b))
       go rules.left q m b = rw q (went (rw q at b))
@@ -107,7 +107,7 @@ module _ (cfg : Config) (rows : List ℕ) (s : KernelState) (five : eqb (length 
   bound = subst (λ (x : calls.Answer). length (x .events) < 2 ^ 64 - 1) call-is (events-bound cfg rows s few)
 
   module _ (log : List ℕ) (a : Step) (w : List ℕ) (e : seen a w ≡ played (logAt log 0) (phases cfg rows s)) where
-    pub advance-ran : OneOf (0 ∷ 1 ∷ 3 ∷ []) (tagOf Rattle.kernel.proofs.Outcome.the-type (a .outcome))
+    pub advance-ran : OneOf (0 ∷ 1 ∷ 3 ∷ []) (tagOf Rattle.reports.proofs.Outcome.the-type (a .outcome))
         → (gave (a .state) (a .raised) ≡ advanceTold (calls.advance cfg rows s)) × (w ≡ written log (calls.advance cfg rows s .events))
     advance-ran m = rw call-is (answered log (phases cfg rows s) a w e bound m)
 

@@ -22,14 +22,14 @@ use Rattle.book.specs.declared.state.KernelState.{KernelState}
 use Rattle.rules.specs.Run as rules
 use Rattle.rules.specs.Events as walk
 use Rattle.rules.proofs.Falls.{event-falls, walk-again, walk-last}
-use Rattle.kernel.specs.Log.{logAt, note, noted, played, seen}
+use Rattle.reports.specs.Log.{logAt, note, noted, played, seen}
 use Rattle.kernel.specs.Events.{classTold, nextTold, truncated, pausedAt, withLooked, lookedIn}
-use Rattle.kernel.specs.declared.Outcome.the-variants.{Ran, Left}
-use Rattle.kernel.specs.declared.Step.{Step}
+use Rattle.reports.specs.declared.Outcome.the-variants.{Ran, Left}
+use Rattle.reports.specs.declared.Step.{Step}
 use Rattle.kernel.specs.declared.events.Class.{Class}
 use Rattle.kernel.specs.declared.events.Next.{Next}
 use Rattle.kernel.specs.declared.events.Next.the-variants.{Nothing, At}
-use Rattle.kernel.proofs.Then.{played-ran, Stopped, then-ran, then-stop, state-is, ran-too}
+use Rattle.reports.proofs.Then.{played-ran, Stopped, then-ran, then-stop, state-is, ran-too}
 
 -- ---- pop_observation
 module _ (w : List ℕ) (n now : ℕ) (cfg : Config) (control : Control) (observed : Observed) (agent : AgentView)

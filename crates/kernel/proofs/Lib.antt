@@ -1,11 +1,3 @@
-pub mod Notes
-pub mod Then
-pub mod ReportWays
-pub mod MessagesWays
-pub mod ActivationWays
-pub mod CancelWays
-pub mod MatchingWays
-pub mod DeliveryWays
 pub mod EventsWays
 pub mod PhasesWays
 pub mod CallsWays

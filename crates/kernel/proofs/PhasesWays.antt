@@ -35,16 +35,16 @@ use Rattle.rules.specs.Delivery.{endOfData}
 use Rattle.rules.specs.Phases.{rowAt, queueObservation, matchPhase, beforeMatch, settleRow, settle, nextRow, obsQueued, toNextRow, phaseTurn, turns, phases}
 use Rattle.rules.proofs.Falls.{walk-last}
 use Rattle.rules.proofs.Fewer.{phase-falls, phases-again, phases-last}
-use Rattle.kernel.specs.Log.{Log, logAt, note, noted, Seen, played, seen}
+use Rattle.reports.specs.Log.{Log, logAt, note, noted, Seen, played, seen}
 use Rattle.kernel.specs.Events.{nextTold}
 use Rattle.kernel.specs.Phases.{tickTold, withObs, obsIn}
-use Rattle.kernel.specs.declared.Outcome.{Outcome}
-use Rattle.kernel.specs.declared.Outcome.the-variants.{Ran, Halt}
-use Rattle.kernel.specs.declared.Step.{Step}
+use Rattle.reports.specs.declared.Outcome.{Outcome}
+use Rattle.reports.specs.declared.Outcome.the-variants.{Ran, Halt}
+use Rattle.reports.specs.declared.Step.{Step}
 use Rattle.kernel.specs.declared.events.Next.{Next}
 use Rattle.kernel.specs.declared.events.Next.the-variants.{Nothing}
 use Rattle.kernel.specs.declared.phases.ObsStep.{ObsStep}
-use Rattle.kernel.proofs.Then.{played-ran, played-halt, then-ran, then-stop, Stopped, state-is, ran-too, fits-none, fits-some}
+use Rattle.reports.proofs.Then.{played-ran, played-halt, then-ran, then-stop, Stopped, state-is, ran-too, fits-none, fits-some}
 
 -- ---- the walk, where nothing is due
 pub walk-none : (l : Log) (cfg : Config) (until : ℕ) (s : KernelState) (n : Next) → nextTold n ≡ nextOf until s → n ≡ Nothing

@@ -10,7 +10,7 @@ use Rattle.book.specs.declared.state.KernelState.{KernelState}
 use Rattle.book.specs.declared.state.Phase.the-variants as phase
 use Rattle.book.specs.declared.state.Status.the-variants as status
 use Rattle.rules.specs.Events as walk
-use Rattle.kernel.specs.declared.Step.{Step}
+use Rattle.reports.specs.declared.Step.{Step}
 use Rattle.kernel.specs.declared.events.Class.{Class}
 use Rattle.kernel.specs.declared.events.Class.the-variants as class
 use Rattle.kernel.specs.declared.events.Next.{Next}

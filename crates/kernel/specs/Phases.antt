@@ -11,7 +11,7 @@ use Rattle.book.specs.declared.state.Clock.{Clock}
 use Rattle.book.specs.declared.state.Control.{Control}
 use Rattle.book.specs.declared.state.KernelState.{KernelState}
 use Rattle.book.specs.declared.state.Phase.the-variants as phase
-use Rattle.kernel.specs.declared.Step.{Step}
+use Rattle.reports.specs.declared.Step.{Step}
 use Rattle.kernel.specs.declared.phases.ObsStep.{ObsStep}
 
 abbrev pub tickTold : MaybeTick → Option KernelTick

@@ -1,7 +1,7 @@
 -- What `advance` and `pass` answer, as the rules say it.
 use lib.ListN.{length}
 use Rattle.rules.specs.Calls as calls
-use Rattle.kernel.specs.declared.Outcome.the-variants.{Ran}
+use Rattle.reports.specs.declared.Outcome.the-variants.{Ran}
 use Rattle.kernel.specs.declared.Answer.{Answer}
 use Rattle.kernel.specs.declared.Answer.the-variants as answer
 use Rattle.kernel.specs.declared.Advanced.{Advanced}

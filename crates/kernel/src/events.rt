@@ -1,9 +1,4 @@
 // The walk over the three queues.
-use super::Outcome;
-use super::Step;
-use super::delivery::deliver_next;
-use super::log::emit;
-use super::messages::apply_next_msg;
 use book::config::Config;
 use book::deliveries::Deliveries;
 use book::deliveries::MaybeDelivery;
@@ -17,13 +12,18 @@ use book::state::KernelEvent;
 use book::state::KernelState;
 use book::state::Phase;
 use book::state::Status;
+use delivery::deliver_next;
+use messages::apply_next_msg;
 use numbers::MaybeU64;
 use numbers::words::max;
+use reports::Outcome;
+use reports::Step;
+use reports::log::emit;
 ghost use mathlib.Core.Path.{_≡_};
 ghost use Rattle.book.specs.declared.state.KernelState.{KernelState};
 ghost use Rattle.rules.specs.Events.{popObservation, dueBy, sooner, nextMsg, nextDelivery, nextObservation, nextOf, runEvents};
 ghost use Rattle.book.specs.With.{withMsgs, withDeliveries, withObserved};
-ghost use Rattle.kernel.specs.Log.{logAt, played, seen};
+ghost use Rattle.reports.specs.Log.{logAt, played, seen};
 ghost use Rattle.kernel.specs.Events.{classTold, nextTold, truncated, pausedAt, lookedIn, withLooked, withQueues};
 
 // Event classes, in their order at equal times.

@@ -1,11 +1,6 @@
 // The kernel: `advance` and `pass` (step.rs of the Rust). A state goes in by value and comes back; inside, a function that runs on every row takes the parts that it changes.
-mod delivery;
 mod events;
-mod log;
-mod matching;
-mod messages;
 mod phases;
-mod report;
 
 use book::config::Config;
 use book::state::Control;
@@ -15,29 +10,15 @@ use book::state::KernelState;
 use book::state::Phase;
 use book::state::Refusal;
 use book::state::Status;
-use log::emit;
 use numbers::MaybeU64;
 use numbers::words::checked_add;
 use phases::run_phases;
+use reports::Outcome;
+use reports::log::emit;
 ghost use mathlib.Core.Path.{_≡_};
 ghost use Rattle.rules.specs.Log.{written};
 ghost use Rattle.rules.specs.Calls.{advance, pass, halted, countsFit, isPaused, canResume};
 ghost use Rattle.kernel.specs.Told.{advanceTold, passTold};
-
-// How a step went: to its end; left by an observation that paused or truncated; halted; or at the end of the data.
-pub enum Outcome {
-    Ran,
-    Left,
-    Halt(HaltReason),
-    Ended,
-}
-
-// What a step over the whole state gives: how it went, the state, and how many events the call has raised so far.
-pub struct Step {
-    pub outcome: Outcome,
-    pub state: KernelState,
-    pub raised: u64,
-}
 
 // Whether a call ran, or why it was refused.
 pub enum Answer {

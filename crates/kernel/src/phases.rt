@@ -1,13 +1,8 @@
 // The phases of a row.
-use super::Outcome;
-use super::Step;
-use super::delivery::end_of_data;
 use super::events::Next;
 use super::events::next_of;
 use super::events::run_events;
 use super::events::truncate;
-use super::log::emit;
-use super::matching::match_row;
 use book::ObsEntry;
 use book::config::Config;
 use book::config::KernelTick;
@@ -19,10 +14,15 @@ use book::state::HaltReason;
 use book::state::KernelEvent;
 use book::state::KernelState;
 use book::state::Phase;
+use delivery::end_of_data;
+use matching::match_row;
 use models::latency::delayed;
 use numbers::MaybeU64;
 use numbers::words::checked_add;
 use numbers::words::max;
+use reports::Outcome;
+use reports::Step;
+use reports::log::emit;
 ghost use mathlib.Core.Path.{_≡_};
 ghost use mathlib.Core.List.{List};
 ghost use Prim.Native.Nat.{ℕ};
@@ -31,7 +31,7 @@ ghost use Rattle.book.specs.declared.state.KernelState.{KernelState};
 ghost use Rattle.book.specs.declared.state.Phase.the-variants.{ObsQueued};
 ghost use Rattle.rules.specs.Events.{runEvents};
 ghost use Rattle.rules.specs.Phases.{rowAt, queueObservation, matchPhase, beforeMatch, settleRow, settle, nextRow, obsQueued, phases};
-ghost use Rattle.kernel.specs.Log.{logAt, played, seen};
+ghost use Rattle.reports.specs.Log.{logAt, played, seen};
 ghost use Rattle.kernel.specs.Phases.{tickTold, obsIn, withObs, toRow};
 
 // What queueing an observation changes of the state.

@@ -4,8 +4,8 @@ use lib.ListN.{length}
 use Rattle.book.specs.With.{withClock, clockNowNs}
 use Rattle.book.specs.declared.state.KernelState.{KernelState}
 use Rattle.rules.specs.Events.{runEvents, weight}
-use Rattle.kernel.specs.Log.{logAt, played}
-use Rattle.kernel.specs.Delivery.{handedIn}
+use Rattle.reports.specs.Log.{logAt, played}
+use Rattle.delivery.specs.Delivery.{handedIn}
 use Rattle.kernel.specs.Events.{lookedIn}
 use Rattle.kernel.specs.declared.events.Class.the-variants.{Venue, Delivery, Observation}
 use Rattle.kernel.proofs.EventsWays.{walk-done, walk-goes, walk-stops, walk-falls}

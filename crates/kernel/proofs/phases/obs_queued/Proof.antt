@@ -1,7 +1,7 @@
 -- `kernel::phases::obs_queued` meets its contract. Assumes nothing.
 use mathlib.Core.Path.{_∙_, sym}
 use Rattle.rules.specs.Phases.{settle, nextRow, obsQueued}
-use Rattle.kernel.proofs.Then.{then-ran, then-stop}
+use Rattle.reports.proofs.Then.{then-ran, then-stop}
 use borrow.Author.Needs.{needs}
 use Rattle.kernel.proofs.phases.obs_queued.Statement.{statement}
 use Rattle.kernel.proofs.phases.obs_queued.Tie as tie

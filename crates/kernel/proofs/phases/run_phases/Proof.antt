@@ -2,7 +2,7 @@
 use mathlib.Core.Path.{_≡_, refl, sym, _∙_}
 use lib.ListN.{length}
 use Rattle.rules.specs.Phases.{phases, turns}
-use Rattle.kernel.specs.Log.{logAt, played}
+use Rattle.reports.specs.Log.{logAt, played}
 use Rattle.kernel.proofs.PhasesWays.{turn-before, turn-queued, phases-paused, phases-over, phases-left, phases-on, phases-fall}
 use borrow.Author.Needs.{needs}
 use Rattle.kernel.proofs.phases.run_phases.Statement.{statement}

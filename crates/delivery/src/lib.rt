@@ -1,0 +1,355 @@
+// Deliveries, and the end of data.
+use book::ExecKind;
+use book::MaybeFill;
+use book::MsgKind;
+use book::Origin;
+use book::ReportRec;
+use book::account::AgentAccount;
+use book::deliveries::Deliveries;
+use book::deliveries::MaybeDelivery;
+use book::msgs::Msgs;
+use book::state::AgentView;
+use book::state::Control;
+use book::state::HaltReason;
+use book::state::KernelEvent;
+use book::state::KernelState;
+use book::state::Phase;
+use book::state::Status;
+use models::account::on_delivery;
+use models::gate::move_by;
+use numbers::MaybeU64;
+use numbers::position::Moved;
+use numbers::words::checked_add;
+use reports::Outcome;
+use reports::Step;
+use reports::log::emit;
+ghost use mathlib.Core.Path.{_≡_};
+ghost use mathlib.Core.List.{List, map};
+ghost use Prim.Native.Nat.{ℕ};
+ghost use Rattle.lists.specs.Lists.{live};
+ghost use Rattle.book.specs.Rows.{msgsRow};
+ghost use Rattle.book.specs.With.{withAgent};
+ghost use Rattle.book.specs.declared.state.KernelState.{KernelState};
+ghost use Rattle.rules.specs.Delivery.{moveAgent, countReject, isRejected, isLocal, deliverNext, deliverAll, droppedBy, droppedEvent, closeData, endOfData};
+ghost use Rattle.reports.specs.Log.{logAt, played, seen, noted};
+ghost use Rattle.delivery.specs.Delivery.{agentIn, handedIn, withHanded};
+
+// What a delivery does to the agent.
+pub struct AgentStep {
+    pub outcome: Outcome,
+    pub agent: AgentView,
+}
+
+// What a delivery changes of the state.
+pub struct Handed {
+    pub outcome: Outcome,
+    pub deliveries: Deliveries,
+    pub agent: AgentView,
+    pub account: AgentAccount,
+    pub raised: u64,
+}
+
+// The agent's position moves by the fill's record, and the fill is counted.
+fn move_agent(fill: MaybeFill, agent: AgentView) -> AgentStep
+    ensures { λ r. ⌜ ((s : KernelState) (n : ℕ) (w : List ℕ) → seen (agentIn s n r) w ≡ played (logAt w n) (moveAgent fill (withAgent s agent))) ⌝ }
+{
+    let MaybeFill::Some(f) = fill else {
+        return AgentStep {
+            outcome: Outcome::Ran,
+            agent,
+        };
+    };
+    let side = f.side;
+    let position = agent.pos;
+    let to = move_by(position, side, f.qty);
+    let Moved::To(pos) = to else {
+        return AgentStep {
+            outcome: Outcome::Halt(HaltReason::LedgerOverflow),
+            agent,
+        };
+    };
+    let mut next = agent;
+    next.pos = pos;
+    let count = checked_add(agent.delivered_fills, 1);
+    let MaybeU64::Some(delivered_fills) = count else {
+        return AgentStep {
+            outcome: Outcome::Halt(HaltReason::CounterOverflow),
+            agent: next,
+        };
+    };
+    next.delivered_fills = delivered_fills;
+    AgentStep {
+        outcome: Outcome::Ran,
+        agent: next,
+    }
+}
+
+fn is_rejected(kind: ExecKind) -> bool
+    ensures { λ r. ⌜ r ≡ isRejected kind ⌝ }
+{
+    match kind {
+        ExecKind::Accepted => false,
+        ExecKind::Rejected => true,
+        ExecKind::Canceled => false,
+        ExecKind::CancelRejected => false,
+        ExecKind::PartialFill => false,
+        ExecKind::Fill => false,
+    }
+}
+
+fn is_local(origin: Origin) -> bool
+    ensures { λ r. ⌜ r ≡ isLocal origin ⌝ }
+{
+    match origin {
+        Origin::Local => true,
+        Origin::Venue => false,
+    }
+}
+
+// A local rejection is counted.
+fn count_reject(report: ReportRec, agent: AgentView) -> AgentStep
+    ensures { λ r. ⌜ ((s : KernelState) (n : ℕ) (w : List ℕ) → seen (agentIn s n r) w ≡ played (logAt w n) (countReject report (withAgent s agent))) ⌝ }
+{
+    let kind = report.kind;
+    if !is_rejected(kind) {
+        return AgentStep {
+            outcome: Outcome::Ran,
+            agent,
+        };
+    }
+    let origin = report.origin;
+    if !is_local(origin) {
+        return AgentStep {
+            outcome: Outcome::Ran,
+            agent,
+        };
+    }
+    let count = checked_add(agent.delivered_local_rejects, 1);
+    let MaybeU64::Some(delivered_local_rejects) = count else {
+        return AgentStep {
+            outcome: Outcome::Halt(HaltReason::CounterOverflow),
+            agent,
+        };
+    };
+    let mut next = agent;
+    next.delivered_local_rejects = delivered_local_rejects;
+    AgentStep {
+        outcome: Outcome::Ran,
+        agent: next,
+    }
+}
+
+// The first delivery reaches the agent.
+pub fn deliver_next(
+    log: &mut [u64],
+    raised: u64,
+    deliveries: Deliveries,
+    agent: AgentView,
+    account: AgentAccount,
+) -> Handed
+    ensures { λ r. ⌜ ((s : KernelState) → seen (handedIn s r) (now (log .exit)) ≡ played (logAt (now (log .entry)) raised) (deliverNext (withHanded s deliveries agent account))) ⌝ }
+{
+    let taken = deliveries.pop_front();
+    let got = taken.got;
+    let MaybeDelivery::Some(delivery) = got else {
+        return Handed {
+            outcome: Outcome::Ran,
+            deliveries,
+            agent,
+            account,
+            raised,
+        };
+    };
+    let rest = taken.list;
+    let report = delivery.report;
+    let n = emit(log, raised, KernelEvent::Delivered(report));
+    let fill = delivery.fill;
+    let a = move_agent(fill, agent);
+    let moved = a.agent;
+    let o = a.outcome;
+    let Outcome::Ran = o else {
+        return Handed {
+            outcome: o,
+            deliveries: rest,
+            agent: moved,
+            account,
+            raised: n,
+        };
+    };
+    let b = count_reject(report, moved);
+    let counted = b.agent;
+    let p = b.outcome;
+    let Outcome::Ran = p else {
+        return Handed {
+            outcome: p,
+            deliveries: rest,
+            agent: counted,
+            account,
+            raised: n,
+        };
+    };
+    let told = on_delivery(account, report);
+    Handed {
+        outcome: Outcome::Ran,
+        deliveries: rest,
+        agent: counted,
+        account: told,
+        raised: n,
+    }
+}
+
+// All deliveries, in list order whatever their times.
+fn deliver_all(
+    log: &mut [u64],
+    raised: u64,
+    deliveries: Deliveries,
+    agent: AgentView,
+    account: AgentAccount,
+) -> Handed
+    ensures { λ r. ⌜ ((s : KernelState) → seen (handedIn s r) (now (log .exit)) ≡ played (logAt (now (log .entry)) raised) (deliverAll (deliveries .count) (withHanded s deliveries agent account))) ⌝ }
+{
+    let count = deliveries.count;
+    let mut d = deliveries;
+    let mut g = agent;
+    let mut a = account;
+    let mut n = raised;
+    let mut k = 0;
+    while k < count {
+        let h = deliver_next(log, n, d, g, a);
+        let o = h.outcome;
+        let Outcome::Ran = o else {
+            return h;
+        };
+        d = h.deliveries;
+        g = h.agent;
+        a = h.account;
+        n = h.raised;
+        k += 1;
+    }
+    Handed {
+        outcome: Outcome::Ran,
+        deliveries: d,
+        agent: g,
+        account: a,
+        raised: n,
+    }
+}
+
+fn dropped_event(kind: MsgKind) -> KernelEvent
+    ensures { λ r. ⌜ r ≡ droppedBy kind ⌝ }
+{
+    match kind {
+        MsgKind::Cancel { id } => KernelEvent::DroppedMsg {
+            order_id: id,
+            cancel: true,
+        },
+        MsgKind::Activate { order, life: _ } => KernelEvent::DroppedMsg {
+            order_id: order.id,
+            cancel: false,
+        },
+        MsgKind::Expire { id } => KernelEvent::DroppedExpiry { order_id: id },
+    }
+}
+
+// Each message that is dropped at the end of the data is told.
+fn tell_dropped(log: &mut [u64], raised: u64, msgs: Msgs) -> u64
+    ensures { λ r. ⌜ logAt (now (log .exit)) r ≡ noted (logAt (now (log .entry)) raised) (map droppedEvent (live 16 (msgsRow msgs))) ⌝ }
+{
+    let list = msgs;
+    let count = list.count;
+    let mut n = raised;
+    if count > 16 {
+        return n;
+    }
+    for i in 0..count {
+        let msg = list.slots[i];
+        let kind = msg.kind;
+        let e = dropped_event(kind);
+        n = emit(log, n, e);
+    }
+    n
+}
+
+// No delivery is left: the messages and observations are dropped and counted.
+fn close_data(log: &mut [u64], raised: u64, s: KernelState) -> Step
+    ensures { λ r. ⌜ seen r (now (log .exit)) ≡ played (logAt (now (log .entry)) raised) (closeData s) ⌝ }
+{
+    let msgs = s.msgs;
+    let observed = s.observed;
+    let n = tell_dropped(log, raised, msgs);
+    let dropped_msgs = msgs.count as u64;
+    let dropped_obs = observed.count as u64;
+    let no_msgs = msgs.clear();
+    let no_obs = observed.clear();
+    let mut t = s;
+    t.msgs = no_msgs;
+    t.observed = no_obs;
+    let sum = checked_add(s.counters.eof_dropped_msgs, dropped_msgs);
+    let MaybeU64::Some(eof_dropped_msgs) = sum else {
+        return Step {
+            outcome: Outcome::Halt(HaltReason::CounterOverflow),
+            state: t,
+            raised: n,
+        };
+    };
+    t.counters.eof_dropped_msgs = eof_dropped_msgs;
+    let sum2 = checked_add(s.counters.eof_dropped_obs, dropped_obs);
+    let MaybeU64::Some(eof_dropped_obs) = sum2 else {
+        return Step {
+            outcome: Outcome::Halt(HaltReason::CounterOverflow),
+            state: t,
+            raised: n,
+        };
+    };
+    t.counters.eof_dropped_obs = eof_dropped_obs;
+    let c = s.control;
+    let resume = c.resume;
+    let cur_row = c.cur_row;
+    let control = Control {
+        phase: Phase::Terminal,
+        resume,
+        cursor: c.cursor,
+        cur_row,
+        step: c.step,
+        status: Status::EndOfData,
+    };
+    t.control = control;
+    let m = emit(
+        log,
+        n,
+        KernelEvent::EndOfData {
+            dropped_msgs,
+            dropped_obs,
+        },
+    );
+    Step {
+        outcome: Outcome::Ended,
+        state: t,
+        raised: m,
+    }
+}
+
+pub fn end_of_data(log: &mut [u64], raised: u64, s: KernelState) -> Step
+    ensures { λ r. ⌜ seen r (now (log .exit)) ≡ played (logAt (now (log .entry)) raised) (endOfData s) ⌝ }
+{
+    let deliveries = s.deliveries;
+    let agent = s.agent;
+    let account = s.account;
+    let h = deliver_all(log, raised, deliveries, agent, account);
+    let d = h.deliveries;
+    let g = h.agent;
+    let a = h.account;
+    let mut t = s;
+    t.deliveries = d;
+    t.agent = g;
+    t.account = a;
+    let o = h.outcome;
+    let Outcome::Ran = o else {
+        return Step {
+            outcome: o,
+            state: t,
+            raised: h.raised,
+        };
+    };
+    close_data(log, h.raised, t)
+}

@@ -1,9 +1,0 @@
--- `kernel::log::report_words` meets its contract. Assumes nothing.
-use borrow.Author.Needs.{needs}
-use Rattle.kernel.proofs.log.report_words.Statement.{statement}
-use Rattle.kernel.proofs.log.report_words.Tie as tie
-
-pub report-words-spec : {M : Type 1} → statement M
-report-words-spec =
-    tie.close (tie.spec (λ c κs. search needs) (λ c κs. search needs) (λ c κs. search needs) (λ c κs. search needs)
-    (λ c. let b = c .before in simp (b .before .before .side-word .ensures, b .before .exec-word .ensures, b .origin-word .ensures, c .flag-word .ensures)))

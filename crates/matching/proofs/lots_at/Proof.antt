@@ -1,0 +1,22 @@
+-- `matching::lots_at` meets its contract, by the laws of `MatchingWays`. Assumes nothing.
+use borrow.Author.Tests.{not-true, not-false}
+use Rattle.matching.proofs.MatchingWays.{lots-empty, lots-unmatched, lots-fail, lots-zero, lots-take}
+use borrow.Author.Needs.{needs}
+use Rattle.matching.proofs.lots_at.Statement.{statement}
+use Rattle.matching.proofs.lots_at.Tie as tie
+
+pub lots-at-spec : {M : Type 1} → statement M
+lots-at-spec =
+    tie.close (tie.spec
+    (λ c κs. search needs)
+    (λ c. search needs)
+    (λ c. search needs)
+    (λ c. lots-empty _ _ _ _ _ (c .before .before .get .ensures) (c .enum-told .given .1))
+    (λ c κs. search needs)
+    (λ c. lots-unmatched _ _ _ _ _ (c .before .before .before .before .before .get .ensures) _ (c .before .before .before .got .given .1) _ (c .before .matches .ensures) (not-true _ (c .if1 .taken)))
+    (λ c κs. search needs)
+    (λ c. search needs)
+    (λ c. search needs)
+    (λ c. lots-fail _ _ _ _ _ (c .before .before .before .before .before .before .before .before .get .ensures) _ (c .before .before .before .before .before .before .got .given .1) _ (c .before .before .before .before .matches .ensures) (not-false _ (c .before .before .before .if1 .left)) _ (c .before .before .fill-lots .ensures) (c .enum-told2 .given .1))
+    (λ c. lots-zero _ _ _ _ _ (c .before .before .before .before .before .before .before .before .before .before .get .ensures) _ (c .before .before .before .before .before .before .before .before .got .given .1) _ (c .before .before .before .before .before .before .matches .ensures) (not-false _ (c .before .before .before .before .before .if1 .left)) _ (c .before .before .before .before .fill-lots .ensures) _ (c .before .before .lots .given .1) (c .if2 .taken))
+    (λ c. lots-take _ _ _ _ _ (c .before .before .before .before .before .before .before .before .before .before .get .ensures) _ (c .before .before .before .before .before .before .before .before .got .given .1) _ (c .before .before .before .before .before .before .matches .ensures) (not-false _ (c .before .before .before .before .before .if1 .left)) _ (c .before .before .before .before .fill-lots .ensures) _ (c .before .before .lots .given .1) (c .if2 .left)))

@@ -1,0 +1,10 @@
+-- `matching::mark` meets its contract, by the laws of `MatchingWays`. Assumes nothing.
+use Rattle.matching.proofs.MatchingWays.{mark-none, mark-some}
+use Rattle.matching.proofs.mark.Statement.{statement}
+use Rattle.matching.proofs.mark.Tie as tie
+
+pub mark-spec : {M : Type 1} → statement M
+mark-spec =
+    tie.close (tie.spec
+    (λ c. mark-none _ _ (c .if1 .taken))
+    (λ c. mark-some _ _ (c .before .if1 .left)))

@@ -1,0 +1,38 @@
+-- `matching::sweep` meets its contract, by the laws of `MatchingWays`: from each look on, the rest of the pass gives what the whole gives. Assumes nothing.
+use mathlib.Core.List.{List}
+use mathlib.Core.Path.{_≡_, refl, _∙_}
+use Prim.Native.Nat.{ℕ, _+_, _-_, _≤_}
+use Rattle.book.specs.declared.state.KernelState.{KernelState}
+use Rattle.rules.specs.Matching.{sweepFrom}
+use Rattle.reports.specs.Log.{logAt, played}
+use Rattle.matching.specs.Matching.{withSwept}
+use Rattle.matching.proofs.MatchingWays.{sweep-past, sweep-on, sweep-stop, sweep-end}
+use borrow.Author.Needs.{needs}
+use native.Mathlib.Omega.{arith}
+use Rattle.matching.proofs.sweep.Statement.{statement}
+use Rattle.matching.proofs.sweep.Tie as tie
+
+abbrev Inv-loop : tie.InvT-loop
+Inv-loop looks o₀ m₀ a₀ place₀ k₀ o m a place k =
+    (k ≤ looks) × (place ≤ k)
+    × ((s : KernelState) (n : ℕ) (w : List ℕ) → played (logAt w n) (sweepFrom (looks - k) place (withSwept s o m a)) ≡ played (logAt w n) (sweepFrom looks 0 (withSwept s o₀ m₀ a₀)))
+
+abbrev μ-loop : tie.MeasureT-loop
+μ-loop looks o₀ m₀ a₀ place₀ k₀ o m a place k = looks - k
+
+pub sweep-spec : {M : Type 1} → statement M
+sweep-spec =
+    tie.close (tie.spec Inv-loop μ-loop
+    (λ c. let z : c .args .orders .count - 0 ≡ c .args .orders .count = omega arith in (omega arith, omega arith, λ s n w. rw z))
+    (λ c κs. search needs)
+    (λ c κs. search needs)
+    (λ c. search needs)
+    (λ c. λ s n w. sweep-stop (c .before .before .before .before .before .loop .place) _ _ _ (c .before .before .before .before .before .before .args .orders .count - c .before .before .before .before .before .loop .k) (c .before .before .before .before .before .before .args .orders .count - (c .before .before .before .before .before .loop .k + 1)) (omega arith) _ (c .before .before .before .terminal-at .ensures) (c .before .before .if1 .taken) (c .before .leave .result) (c .before .leave .ensures) (c .match .keys2) s n w ∙ c .before .before .before .before .before .loop .inv .2 s n w)
+    (λ c. search needs)
+    (λ c. search needs)
+    (λ c. (search needs, search needs, λ s n w. sweep-on (c .before .before .before .before .before .before .before .before .before .loop .place) _ _ _ (c .before .before .before .before .before .before .before .before .before .before .args .orders .count - c .before .before .before .before .before .before .before .before .before .loop .k) (c .before .before .before .before .before .before .before .before .before .before .args .orders .count - (c .before .before .before .before .before .before .before .before .before .loop .k + 1)) (omega arith) _ (c .before .before .before .before .before .before .before .terminal-at .ensures) (c .before .before .before .before .before .before .if1 .taken) (c .before .before .before .before .before .leave .result) (c .before .before .before .before .before .leave .ensures) (c .before .before .before .enum-told .given .1) s n w ∙ c .before .before .before .before .before .before .before .before .before .loop .inv .2 s n w))
+    (λ c. search needs)
+    (λ c. search needs)
+    (λ c. search needs)
+    (λ c. (search needs, search needs, λ s n w. sweep-past (c .before .before .before .loop .place) _ _ _ (c .before .before .before .before .args .orders .count - c .before .before .before .loop .k) (c .before .before .before .before .args .orders .count - (c .before .before .before .loop .k + 1)) (omega arith) _ (c .before .terminal-at .ensures) (c .if1 .left) s n w ∙ c .before .before .before .loop .inv .2 s n w))
+    (λ c. λ s n w. sweep-end (c .before .loop .place) _ _ _ (c .before .before .args .orders .count - c .before .loop .k) (omega arith) s n w ∙ c .before .loop .inv .2 s n w))

@@ -1,0 +1,15 @@
+-- `matching::terminal_at` meets its contract, by the laws of `MatchingWays`. Assumes nothing.
+use Rattle.matching.proofs.MatchingWays.{terminal-none, terminal-some}
+use borrow.Author.Needs.{needs}
+use Rattle.matching.proofs.terminal_at.Statement.{statement}
+use Rattle.matching.proofs.terminal_at.Tie as tie
+
+pub terminal-at-spec : {M : Type 1} → statement M
+terminal-at-spec =
+    tie.close (tie.spec
+    (λ c κs. search needs)
+    (λ c. search needs)
+    (λ c. search needs)
+    (λ c. terminal-none _ _ _ (c .before .before .get .ensures) (c .enum-told .given .1))
+    (λ c κs. search needs)
+    (λ c. terminal-some _ _ _ (c .before .before .before .before .get .ensures) _ _ (c .before .before .got .given .1) (c .is-terminal .ensures)))

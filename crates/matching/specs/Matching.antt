@@ -1,0 +1,61 @@
+-- The parts of the state that a match pass and the sweep after it change.
+use Prim.Native.Nat.{ℕ}
+use lib.Dec.{eqb}
+use Rattle.numbers.specs.Choice.{pick}
+use Rattle.numbers.specs.Words.{onWord}
+use Rattle.lists.specs.Lists.{onSome, entryAt}
+use Rattle.book.specs.Entries.{blankOrder, remaining}
+use Rattle.book.specs.Rows.{ordersRow}
+use Rattle.book.specs.With.{withClock, withRngLatency, withSeqs, withOrders, withMsgs, withAwaiting, withGate, withDeliveries, withCounters}
+use Rattle.book.specs.declared.ExecKind.{ExecKind}
+use Rattle.book.specs.declared.ExecKind.the-variants as exec
+use Rattle.book.specs.declared.VenueOrder.{VenueOrder}
+use Rattle.book.specs.declared.config.FillMode.{FillMode}
+use Rattle.book.specs.declared.config.KernelTick.{KernelTick}
+use Rattle.book.specs.declared.msgs.Msgs.{Msgs}
+use Rattle.book.specs.declared.orders.Orders.{Orders}
+use Rattle.book.specs.declared.state.KernelState.{KernelState}
+use Rattle.book.specs.declared.state.Seqs.{Seqs}
+use Rattle.rules.specs.Matching.{matches, fillLots}
+use Rattle.reports.specs.declared.Step.{Step}
+use Rattle.matching.specs.declared.Venue.{Venue}
+use Rattle.matching.specs.declared.Matched.{Matched}
+use Rattle.matching.specs.declared.Lots.{Lots}
+use Rattle.matching.specs.declared.Lots.the-variants as lots
+use Rattle.matching.specs.declared.Swept.{Swept}
+
+abbrev pub stampedBy : Seqs → KernelState → KernelState
+stampedBy before s = withSeqs s before
+
+abbrev pub withVenue : KernelState → Venue → KernelState
+withVenue s v =
+    withDeliveries (withOrders (withCounters (withGate (withSeqs (withClock (withRngLatency s (v .«rng_latency»)) (v .clock)) (v .seqs)) (v .gate)) (v .counters)) (v .orders)) (v .deliveries)
+
+abbrev pub venueIn : KernelState → Matched → Step
+venueIn s m = record { outcome = m .outcome; state = withVenue s (m .venue); raised = m .raised }
+
+abbrev pub fillKind : ℕ → VenueOrder → ExecKind
+fillKind n o = pick (eqb n (remaining o)) exec.Fill exec.PartialFill
+
+-- what a row fills at a place: nothing, lots of the order there, or the queue rule's halt
+pub data Fills : Type 0 where
+  none-there : Fills
+  fills : VenueOrder → ℕ → Fills
+  fails : Fills
+
+abbrev pub lotsTold : Lots → Fills
+lotsTold lots.Nothing = none-there
+lotsTold (lots.Take o n) = fills o n
+lotsTold lots.Fail = fails
+
+unfoldable pub lotsAt : FillMode → KernelTick → Orders → ℕ → Fills
+lotsAt mode row os i =
+    onSome (entryAt 8 blankOrder i (ordersRow os))
+    (λ o. pick (matches row o) (onWord (fillLots mode row o) (λ n. pick (eqb n 0) none-there (fills o n)) fails) none-there)
+    none-there
+
+abbrev pub withSwept : KernelState → Orders → Msgs → Orders → KernelState
+withSwept s os ms aw = withAwaiting (withMsgs (withOrders s os) ms) aw
+
+abbrev pub sweptIn : KernelState → ℕ → Swept → Step
+sweptIn s n w = record { outcome = w .outcome; state = withSwept s (w .orders) (w .msgs) (w .awaiting); raised = n }

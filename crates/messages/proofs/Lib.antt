@@ -1,0 +1,3 @@
+pub mod MessagesWays
+pub mod ActivationWays
+pub mod CancelWays

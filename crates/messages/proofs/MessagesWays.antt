@@ -1,0 +1,120 @@
+-- `messages`, the parts that raise no event: one law for each way out of a function. Assumes nothing.
+use Prim.Native.Nat.{ℕ, _+_}
+use mathlib.Core.Bool.{Bool, true, false, not}
+use mathlib.Core.List.{List}
+use mathlib.Core.Path.{_≡_, refl, sym}
+use Rattle.numbers.specs.Choice.{pick}
+use Rattle.numbers.specs.Words.{fitting, onWord}
+use Rattle.numbers.specs.declared.MaybeU64.{MaybeU64}
+use Rattle.numbers.specs.declared.MaybeU64.the-variants as u64
+use Rattle.lists.specs.Lists.{onSome, live, foundIn, pushed, putBefore, takeAt}
+use Rattle.book.specs.Entries.{blankMsg, remaining, idAbove, isLater, isExpiry, place}
+use Rattle.book.specs.Rows.{ordersRow, ordersPut, msgsRow, msgsPut, msgsTaken}
+use Rattle.book.specs.With.{withSeqs, withOrders, withMsgs, withAwaiting, withGate, seqsNextMsgSeq}
+use Rattle.book.specs.declared.Found.{Found}
+use Rattle.book.specs.declared.Found.the-variants as found
+use Rattle.book.specs.declared.MsgKind.{MsgKind}
+use Rattle.book.specs.declared.MsgKind.the-variants.{Expire}
+use Rattle.book.specs.declared.VenueOrder.{VenueOrder}
+use Rattle.book.specs.declared.msgs.Msgs.{Msgs}
+use Rattle.book.specs.declared.msgs.MsgsPut.{MsgsPut}
+use Rattle.book.specs.declared.msgs.MsgsTaken.{MsgsTaken}
+use Rattle.book.specs.declared.orders.OrdersPut.{OrdersPut}
+use Rattle.book.specs.declared.state.GateState.{GateState}
+use Rattle.book.specs.declared.state.HaltReason.{HaltReason}
+use Rattle.book.specs.declared.state.HaltReason.the-variants.{CounterOverflow}
+use Rattle.book.specs.declared.state.KernelState.{KernelState}
+use Rattle.models.specs.Told.{gateTold}
+use Rattle.models.specs.declared.gate.Gated.{Gated}
+use Rattle.models.specs.declared.gate.Gated.the-variants.{Fail, Kept}
+use Rattle.rules.specs.Run as rules
+use Rattle.rules.specs.Messages.{released, release, await, awaitMarked, book, schedule, removeExpiry, scheduleExpiry}
+use Rattle.reports.specs.Log.{logAt, noted, played, seen}
+use Rattle.reports.specs.declared.Outcome.the-variants.{Ran, Halt}
+use Rattle.reports.specs.declared.Step.{Step}
+
+abbrev pub ranStep : KernelState → ℕ → Step
+ranStep s n = record { outcome = Ran; state = s; raised = n }
+
+abbrev pub haltStep : HaltReason → KernelState → ℕ → Step
+haltStep h s n = record { outcome = Halt h; state = s; raised = n }
+
+-- a test of what is not so
+is-false : (b : Bool) → not b ≡ true → b ≡ false
+is-false true h = sym h
+is-false false h = refl
+
+is-true : (b : Bool) → not b ≡ false → b ≡ true
+is-true true h = refl
+is-true false h = sym h
+
+-- ---- the gate's release
+module _ (raised lots : ℕ) (o : VenueOrder) (s : KernelState) (g : Gated) (n : lots ≡ remaining o) (e : gateTold g ≡ released (o .side) lots (s .gate)) where
+  pub release-kept : {x : GateState} → g ≡ Kept x → (w : List ℕ) → seen (ranStep (withGate s x) raised) w ≡ played (logAt w raised) (release o s)
+  unfolding release onSome played noted
+  release-kept h w = rw (← n, ← e, h)
+
+  pub release-fail : g ≡ Fail → (w : List ℕ) → seen (haltStep CounterOverflow s raised) w ≡ played (logAt w raised) (release o s)
+  unfolding release onSome played noted
+  release-fail h w = rw (← n, ← e, h)
+
+-- ---- the lists of orders and messages
+module _ (raised : ℕ) (o : VenueOrder) (s : KernelState) where
+  pub await-unmarked : not (o .«cancel_inflight») ≡ true → (w : List ℕ) → seen (ranStep s raised) w ≡ played (logAt w raised) (awaitMarked o s)
+  unfolding awaitMarked pick played noted
+  await-unmarked h w = rw (is-false (o .«cancel_inflight») h)
+
+  module _ (h : not (o .«cancel_inflight») ≡ false) (put : OrdersPut) (e : ordersPut put ≡ putBefore 8 (idAbove (o .id)) o (ordersRow (s .awaiting))) where
+    pub await-in : not (put .ok) ≡ false → (w : List ℕ) → seen (ranStep (withAwaiting s (put .list)) raised) w ≡ played (logAt w raised) (awaitMarked o s)
+    unfolding awaitMarked await rules.putting pick played noted
+    await-in k w = rw (← e, is-true (o .«cancel_inflight») h, is-true (put .ok) k)
+
+    pub await-full : not (put .ok) ≡ true → (w : List ℕ) → seen (haltStep CounterOverflow s raised) w ≡ played (logAt w raised) (awaitMarked o s)
+    unfolding awaitMarked await rules.putting pick played noted
+    await-full k w = rw (← e, is-true (o .«cancel_inflight») h, is-false (put .ok) k)
+
+  module _ (put : OrdersPut) (e : ordersPut put ≡ pushed 8 o (ordersRow (s .orders))) where
+    pub book-in : not (put .ok) ≡ false → (w : List ℕ) → seen (ranStep (withOrders s (put .list)) raised) w ≡ played (logAt w raised) (book o s)
+    unfolding book rules.putting pick played noted
+    book-in k w = rw (← e, is-true (put .ok) k)
+
+    pub book-full : not (put .ok) ≡ true → (w : List ℕ) → seen (haltStep CounterOverflow s raised) w ≡ played (logAt w raised) (book o s)
+    unfolding book rules.putting pick played noted
+    book-full k w = rw (← e, is-false (put .ok) k)
+
+module _ (raised at : ℕ) (kind : MsgKind) (s : KernelState) (next : MaybeU64) (e : next ≡ fitting (s .seqs .«next_msg_seq» + 1)) where
+  pub schedule-none : next ≡ u64.None → (w : List ℕ) → seen (haltStep CounterOverflow s raised) w ≡ played (logAt w raised) (schedule at kind s)
+  unfolding schedule onWord played noted
+  schedule-none h w = rw (← e, h)
+
+  module _ {n : ℕ} (h : next ≡ u64.Some n) (put : MsgsPut)
+      (p : msgsPut put ≡ putBefore 16 (isLater at (s .seqs .«next_msg_seq»)) (record { «eff_ns» = at; seq = s .seqs .«next_msg_seq»; kind = kind }) (msgsRow (s .msgs))) where
+    pub schedule-in : not (put .ok) ≡ false → (w : List ℕ)
+        → seen (ranStep (withMsgs (withSeqs s (seqsNextMsgSeq (s .seqs) n)) (put .list)) raised) w ≡ played (logAt w raised) (schedule at kind s)
+    unfolding schedule onWord rules.putting pick played noted
+    schedule-in k w = rw (← e, h, ← p, is-true (put .ok) k)
+
+    pub schedule-full : not (put .ok) ≡ true → (w : List ℕ)
+        → seen (haltStep CounterOverflow (withSeqs s (seqsNextMsgSeq (s .seqs) n)) raised) w ≡ played (logAt w raised) (schedule at kind s)
+    unfolding schedule onWord rules.putting pick played noted
+    schedule-full k w = rw (← e, h, ← p, is-false (put .ok) k)
+
+module _ (raised id : ℕ) (s : KernelState) (expiry : MaybeU64) where
+  pub no-expiry : expiry ≡ u64.None → (w : List ℕ) → seen (ranStep s raised) w ≡ played (logAt w raised) (scheduleExpiry expiry id s)
+  unfolding scheduleExpiry onWord played noted
+  no-expiry h w = rw h
+
+  pub some-expiry : {at : ℕ} → expiry ≡ u64.Some at → (a : Step) → ((w : List ℕ) → seen a w ≡ played (logAt w raised) (schedule at (Expire id) s))
+      → (w : List ℕ) → seen a w ≡ played (logAt w raised) (scheduleExpiry expiry id s)
+  unfolding scheduleExpiry onWord
+  some-expiry h a e w = rw h (e w)
+
+module _ (id : ℕ) (msgs : Msgs) (at : Found) (e : place at ≡ foundIn (isExpiry id) (live 16 (msgsRow msgs))) where
+  pub expiry-none : at ≡ found.None → (s : KernelState) → withMsgs s msgs ≡ removeExpiry id (withMsgs s msgs)
+  unfolding removeExpiry onSome
+  expiry-none h s = rw (← e, h)
+
+  pub expiry-gone : {i : ℕ} → at ≡ found.At i → (taken : MsgsTaken) → msgsTaken taken ≡ takeAt 16 blankMsg i (msgsRow msgs)
+      → (s : KernelState) → withMsgs s (taken .list) ≡ removeExpiry id (withMsgs s msgs)
+  unfolding removeExpiry onSome
+  expiry-gone h taken t s = rw (← e, h, ← t)

@@ -1,0 +1,20 @@
+-- `messages::apply_expire` meets its contract. Assumes nothing.
+use Rattle.messages.proofs.CancelWays.{expire-unbooked, expire-full, expire-found}
+use borrow.Author.Needs.{needs}
+use Rattle.messages.proofs.apply_expire.Statement.{statement}
+use Rattle.messages.proofs.apply_expire.Tie as tie
+
+pub apply-expire-spec : {M : Type 1} → statement M
+apply-expire-spec =
+    tie.close (tie.spec
+    (λ c κs. search needs)
+    (λ c. search needs)
+    (λ c. search needs)
+    (λ c. expire-unbooked _ _ _ _ _ (c .before .before .booked .result) (c .before .before .booked .ensures) (c .enum-told .given .1))
+    (λ c κs. search needs)
+    (λ c. search needs)
+    (λ c. search needs)
+    (λ c. expire-full _ _ _ _ _ (c .before .before .before .before .before .before .booked .result) (c .before .before .before .before .before .before .booked .ensures) _ (c .before .before .before .before .booked2 .given .1) (c .before .before .checked-add .result) (c .before .before .checked-add .ensures) (c .enum-told2 .given .1))
+    (λ c κs. search needs)
+    (λ c. search needs)
+    (λ c. expire-found _ _ _ _ _ (c .before .before .before .before .before .before .before .before .before .before .before .before .booked .result) (c .before .before .before .before .before .before .before .before .before .before .before .before .booked .ensures) _ (c .before .before .before .before .before .before .before .before .before .before .booked2 .given .1) (c .before .before .before .before .before .before .before .before .checked-add .result) (c .before .before .before .before .before .before .before .before .checked-add .ensures) _ (c .before .before .before .before .before .before .next .given .1) (c .before .before .expire-booked .ensures)))

@@ -1,0 +1,25 @@
+-- `messages::apply_next_msg` meets its contract. Assumes nothing.
+use Rattle.messages.proofs.CancelWays.{next-none, next-cancel, next-activate, next-expire}
+use borrow.Author.Needs.{needs}
+use Rattle.messages.proofs.apply_next_msg.Statement.{statement}
+use Rattle.messages.proofs.apply_next_msg.Tie as tie
+
+pub apply-next-msg-spec : {M : Type 1} → statement M
+apply-next-msg-spec =
+    tie.close (tie.spec
+    (λ c κs. search needs)
+    (λ c. search needs)
+    (λ c. search needs)
+    (λ c. next-none _ _ _ _ (c .before .before .pop-front .result) (c .before .before .pop-front .ensures) (c .enum-told .given .1))
+    (λ c. search needs)
+    (λ c κs. search needs)
+    (λ c. search needs)
+    (λ c κs. search needs)
+    (λ c. search needs)
+    (λ c κs. search needs)
+    (λ c. search needs)
+    (λ c. next-cancel _ _ _ _ (c .before .before .before .before .before .before .before .before .before .before .before .pop-front .result) (c .before .before .before .before .before .before .before .before .before .before .before .pop-front .ensures) _ (c .before .before .before .before .before .before .before .before .before .got .given .1) _ (c .before .before .before .before .before .kind .given .1) (c .before .before .apply-cancel .ensures))
+    (λ c. search needs)
+    (λ c. next-activate _ _ _ _ (c .before .before .before .before .before .before .before .before .before .before .before .pop-front .result) (c .before .before .before .before .before .before .before .before .before .before .before .pop-front .ensures) _ (c .before .before .before .before .before .before .before .before .before .got .given .1) _ _ (c .before .before .before .before .before .kind2 .given .1) (c .before .before .activation .ensures))
+    (λ c. search needs)
+    (λ c. next-expire _ _ _ _ (c .before .before .before .before .before .before .before .before .before .before .before .pop-front .result) (c .before .before .before .before .before .before .before .before .before .before .before .pop-front .ensures) _ (c .before .before .before .before .before .before .before .before .before .got .given .1) _ (c .before .before .before .before .before .kind3 .given .1) (c .before .before .apply-expire .ensures)))

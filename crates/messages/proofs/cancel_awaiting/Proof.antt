@@ -1,0 +1,17 @@
+-- `messages::cancel_awaiting` meets its contract. Assumes nothing.
+use Rattle.messages.proofs.CancelWays.{awaiting-none, awaiting-told}
+use borrow.Author.Needs.{needs}
+use Rattle.messages.proofs.cancel_awaiting.Statement.{statement}
+use Rattle.messages.proofs.cancel_awaiting.Tie as tie
+
+pub cancel-awaiting-spec : {M : Type 1} → statement M
+cancel-awaiting-spec =
+    tie.close (tie.spec
+    (λ c κs. search needs)
+    (λ c. search needs)
+    (λ c. search needs)
+    (λ c. awaiting-none _ _ _ _ _ _ (c .before .before .remove .result) (c .before .before .remove .ensures) (c .enum-told .given .1))
+    (λ c κs. search needs)
+    (λ c κs. search needs)
+    (λ c. search needs)
+    (λ c. awaiting-told _ _ _ _ _ _ (c .before .before .before .before .before .before .before .before .before .remove .result) (c .before .before .before .before .before .before .before .before .before .remove .ensures) _ (c .before .before .before .before .before .before .before .got .given .1) _ (c .before .before .before .before .status-report .ensures) (c .before .before .send .ensures)))

@@ -1,0 +1,22 @@
+-- `messages::cancel_pending` meets its contract. Assumes nothing.
+use Rattle.messages.proofs.CancelWays.{pending-none, pending-other, pending-unreleased, pending-canceled}
+use borrow.Author.Needs.{needs}
+use Rattle.messages.proofs.cancel_pending.Statement.{statement}
+use Rattle.messages.proofs.cancel_pending.Tie as tie
+
+pub cancel-pending-spec : {M : Type 1} → statement M
+cancel-pending-spec =
+    tie.close (tie.spec
+    (λ c κs. search needs)
+    (λ c. search needs)
+    (λ c. search needs)
+    (λ c. pending-none _ _ _ _ _ _ (c .before .before .remove .result) (c .before .before .remove .ensures) (c .enum-told .given .1))
+    (λ c. search needs)
+    (λ c. pending-other _ _ _ _ _ _ (c .before .before .before .before .before .remove .result) (c .before .before .before .before .before .remove .ensures) _ (c .before .before .before .got .given .1) (c .match2 .keys2))
+    (λ c κs. search needs)
+    (λ c. search needs)
+    (λ c. pending-unreleased _ _ _ _ _ _ (c .before .before .before .before .before .before .before .before .before .remove .result) (c .before .before .before .before .before .before .before .before .before .remove .ensures) _ (c .before .before .before .before .before .before .before .got .given .1) _ _ (c .before .before .before .kind .given .1) (c .before .release-order .result) (c .before .release-order .ensures) (c .match3 .keys2))
+    (λ c κs. search needs)
+    (λ c κs. search needs)
+    (λ c. search needs)
+    (λ c. pending-canceled _ _ _ _ _ _ (c .before .before .before .before .before .before .before .before .before .before .before .before .before .before .before .remove .result) (c .before .before .before .before .before .before .before .before .before .before .before .before .before .before .before .remove .ensures) _ (c .before .before .before .before .before .before .before .before .before .before .before .before .before .got .given .1) _ _ (c .before .before .before .before .before .before .before .before .before .kind .given .1) (c .before .before .before .before .before .before .before .release-order .result) (c .before .before .before .before .before .before .before .release-order .ensures) (c .before .before .before .before .before .enum-told2 .given .1) _ (c .before .before .before .before .status-report .ensures) (c .before .before .send .ensures)))

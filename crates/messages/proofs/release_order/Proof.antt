@@ -1,0 +1,15 @@
+-- `messages::release_order` meets its contract. Assumes nothing.
+use Rattle.messages.proofs.MessagesWays.{release-kept, release-fail}
+use borrow.Author.Needs.{needs}
+use Rattle.messages.proofs.release_order.Statement.{statement}
+use Rattle.messages.proofs.release_order.Tie as tie
+
+pub release-order-spec : {M : Type 1} → statement M
+release-order-spec =
+    tie.close (tie.spec
+    (λ c κs. search needs)
+    (λ c κs. search needs)
+    (λ c. search needs)
+    (λ c. search needs)
+    (λ c. release-fail _ _ _ _ (c .before .before .release .result) (c .before .before .before .before .remaining .ensures) (c .before .before .release .ensures) (c .enum-told .given .1))
+    (λ c. release-kept _ _ _ _ (c .before .before .before .release .result) (c .before .before .before .before .before .remaining .ensures) (c .before .before .before .release .ensures) (c .before .gated .given .1)))

@@ -1,0 +1,3 @@
+pub mod Notes
+pub mod Then
+pub mod ReportWays

@@ -1,0 +1,134 @@
+-- What the code gives from step to step is what the rules give: the laws by which each function's proof goes. Assumes nothing.
+use Prim.Native.Nat.{ℕ, _+_}
+use mathlib.Core.Path.{_≡_, refl, sym, ap, _∙_, subst}
+use mathlib.Core.Bool.{true, false}
+use mathlib.Core.List.{List, [], _∷_, _++_}
+use mathlib.Core.Logic.{⊎-elim}
+use mathlib.Core.Option.{none, some}
+use native.Mathlib.Omega.{arith}
+use types.Run.{OneOf}
+use denote.Enum.Declared.{tagOf}
+use Rattle.numbers.specs.Words.{fits, fitting, onWord}
+use Rattle.numbers.specs.declared.MaybeU64.{MaybeU64}
+use Rattle.numbers.specs.declared.MaybeU64.the-variants.{None, Some}
+use Rattle.lists.specs.Lists.{Row, Taken, onSome}
+use Rattle.lists.proofs.Cases.{pick-case}
+use Rattle.book.specs.With.{withSeqs, seqsStampSeq}
+use Rattle.book.specs.declared.MaybeFill.the-variants as fill
+use Rattle.book.specs.declared.ReportRec.{ReportRec}
+use Rattle.book.specs.declared.config.Config.{Config}
+use Rattle.book.specs.declared.state.HaltReason.{HaltReason}
+use Rattle.book.specs.declared.state.HaltReason.the-variants.{CounterOverflow}
+use Rattle.book.specs.declared.state.KernelEvent.{KernelEvent}
+use Rattle.book.specs.declared.state.KernelState.{KernelState}
+use Rattle.rules.specs.Run as rules
+use Rattle.rules.specs.Report.{stamp, queueDelivery}
+use Rattle.reports.specs.Log.{Log, logAt, note, noted, told, Seen, played, seen}
+use Rattle.reports.specs.declared.Outcome.{Outcome}
+use Rattle.reports.specs.declared.Outcome.the-variants.{Ran, Left, Halt, Ended}
+use Rattle.reports.specs.declared.Step.{Step}
+use Rattle.reports.proofs.Notes.{noted-append}
+
+-- ---- a step that is known
+pub played-ran : (l : Log) (s : KernelState) → record { outcome = Ran; state = s; log = l } ≡ played l (rules.ranTo s)
+unfolding played noted
+played-ran l s = refl
+
+pub played-halt : (l : Log) (h : HaltReason) (s : KernelState) → record { outcome = Halt h; state = s; log = l } ≡ played l (rules.haltAt h s)
+unfolding played noted
+played-halt l h s = refl
+
+-- an event, then k
+pub raised-then : (l : Log) (e : KernelEvent) (s : KernelState) (k : KernelState → rules.Run) → played l (rules.andThen (rules.raised e s) k) ≡ played (note l e) (k s)
+unfolding played noted rules.andThen
+raised-then l e s k = refl
+
+-- ---- a step that a callee made: r is what the rules give for it, a and w what the code left
+only-ran : (o : rules.Outcome) → told o ≡ Ran → o ≡ rules.ran
+only-ran rules.ran e = refl
+only-ran rules.left e = let z : _≡_ {A = ℕ} 0 1 = cc in absurd (omega arith)
+only-ran (rules.halt h) e = let z : _≡_ {A = ℕ} 0 1 = cc in absurd (omega arith)
+only-ran (rules.ended ms) e = let z : _≡_ {A = ℕ} 0 1 = cc in absurd (omega arith)
+
+after-ran : (l : Log) (r : rules.Run) (k : KernelState → rules.Run) → r .outcome ≡ rules.ran → played l (rules.andThen r k) ≡ played (noted l (r .events)) (k (r .state))
+unfolding played rules.andThen
+after-ran l r k e = rw e (ap (λ (g : Log). record { outcome = told (k (r .state) .outcome); state = k (r .state) .state; log = g }) (sym (noted-append l (r .events) (k (r .state) .events))))
+
+-- it did not run to its end
+abbrev pub Stopped : Outcome → Type 0
+Stopped o = OneOf (1 ∷ 2 ∷ 3 ∷ []) (tagOf Rattle.reports.proofs.Outcome.the-type o)
+
+after-stop : (l : Log) (r : rules.Run) (k : KernelState → rules.Run) (o : rules.Outcome) → r .outcome ≡ o → Stopped (told o) → rules.andThen r k ≡ r
+unfolding rules.andThen
+after-stop l r k rules.ran e m = absurd (⊎-elim (λ z. omega arith) (λ y. ⊎-elim (λ z. omega arith) (λ z. omega arith) y) m)
+after-stop l r k rules.left e m = rw e
+after-stop l r k (rules.halt h) e m = rw e
+after-stop l r k (rules.ended ms) e m = rw e
+
+module _ (l : Log) (r : rules.Run) (k : KernelState → rules.Run) (a : Step) (w : List ℕ) (e : seen a w ≡ played l r) where
+  outcome-is : a .outcome ≡ told (r .outcome)
+  unfolding played
+  outcome-is = ap (λ (x : Seen). x .outcome) e
+
+  rest-is : played (logAt w (a .raised)) (k (a .state)) ≡ played (noted l (r .events)) (k (r .state))
+  unfolding played
+  rest-is = ap (λ (x : Seen). played (x .log) (k (x .state))) e
+
+  -- it ran: the rest goes on from what it left
+  pub then-ran : a .outcome ≡ Ran → played l (rules.andThen r k) ≡ played (logAt w (a .raised)) (k (a .state))
+  then-ran h = after-ran l r k (only-ran (r .outcome) (sym outcome-is ∙ h)) ∙ sym rest-is
+
+  -- it did not: what it left is all
+  pub then-stop : Stopped (a .outcome) → seen a w ≡ played l (rules.andThen r k)
+  then-stop m = e ∙ ap (played l) (sym (after-stop l r k (r .outcome) refl (subst Stopped outcome-is m)))
+
+  -- the same, for what the rest gives: laws of this form chain, each to the goal that the next one meets
+  pub then-on : a .outcome ≡ Ran → {x : Seen} → x ≡ played (logAt w (a .raised)) (k (a .state)) → x ≡ played l (rules.andThen r k)
+  then-on h p = p ∙ sym (then-ran h)
+
+-- ---- an event, then k: m is the log with it
+pub raise-on : (l : Log) (e : KernelEvent) (s : KernelState) (k : KernelState → rules.Run) (m : Log) → m ≡ note l e → {x : Seen} → x ≡ played m (k s) → x ≡ played l (rules.andThen (rules.raised e s) k)
+raise-on l e s k m h p = p ∙ (ap (λ (g : Log). played g (k s)) h ∙ sym (raised-then l e s k))
+
+-- ---- a report that was made apart is the one that the rules name
+pub sent : (l : Log) (cfg : Config) (s : KernelState) {r q : ReportRec} → r ≡ q → {x : Seen} → x ≡ played l (queueDelivery cfg r fill.None s) → x ≡ played l (queueDelivery cfg q fill.None s)
+sent l cfg s h p = p ∙ ap (λ (r : ReportRec). played l (queueDelivery cfg r fill.None s)) h
+
+-- ---- a stamp, then k: `next` is what the code has for the next number
+module _ (l : Log) (s : KernelState) (k : KernelState → rules.Run) (next : MaybeU64) (e : next ≡ fitting (s .seqs .«stamp_seq» + 1)) where
+  pub stamp-on : {n : ℕ} → next ≡ Some n → {x : Seen} → x ≡ played l (k (withSeqs s (seqsStampSeq (s .seqs) n))) → x ≡ played l (rules.andThen (stamp s) k)
+  unfolding stamp onWord rules.andThen
+  stamp-on h p = rw (← e, h) p
+
+  pub stamp-full : next ≡ None → record { outcome = Halt CounterOverflow; state = s; log = l } ≡ played l (rules.andThen (stamp s) k)
+  unfolding stamp onWord rules.andThen played noted
+  stamp-full h = rw (← e, h)
+
+-- ---- an entry that comes out of a list, then k: q is what the code has of it
+module _ {A : Type 0} (l : Log) (p : Taken A) (k : A → Row A → rules.Run) (z : rules.Run) (q : Taken A) (e : q ≡ p) where
+  pub take-on : {y : A} → q .got ≡ some y → {x : Seen} → x ≡ played l (k y (q .list)) → x ≡ played l (rules.taking p k z)
+  unfolding onSome rules.taking
+  take-on h c = rw (← e, h) c
+
+  pub take-none : q .got ≡ none → {x : Seen} → x ≡ played l z → x ≡ played l (rules.taking p k z)
+  unfolding onSome rules.taking
+  take-none h c = rw (← e, h) c
+
+-- ---- what a callee's step tells of r itself
+module _ (l : Log) (r : rules.Run) (a : Step) (w : List ℕ) (e : seen a w ≡ played l r) where
+  pub state-is : a .state ≡ r .state
+  unfolding played
+  state-is = ap (λ (x : Seen). x .state) e
+
+  pub ran-too : a .outcome ≡ Ran → r .outcome ≡ rules.ran
+  unfolding played
+  ran-too h = only-ran (r .outcome) (sym (ap (λ (x : Seen). x .outcome) e) ∙ h)
+
+-- ---- a sum that fits, and one that does not
+pub fits-none : (n : ℕ) → fitting n ≡ None → fits n ≡ false
+unfolding fitting
+fits-none n = pick-case (λ (w : MaybeU64). w ≡ None → fits n ≡ false) (fits n) (Some n) None (λ _ e. let z : _≡_ {A = ℕ} 0 1 = cc in absurd (omega arith)) (λ e _. e)
+
+pub fits-some : (n m : ℕ) → fitting n ≡ Some m → fits n ≡ true
+unfolding fitting
+fits-some n m = pick-case (λ (w : MaybeU64). w ≡ Some m → fits n ≡ true) (fits n) (Some n) None (λ e _. e) (λ _ e. let z : _≡_ {A = ℕ} 0 1 = cc in absurd (omega arith))

@@ -1,0 +1,20 @@
+-- `reports::report::queue_delivery` meets its contract, by the laws of `ReportWays`. Assumes nothing.
+use Rattle.reports.proofs.ReportWays.{queue-late, queue-in, queue-full}
+use borrow.Author.Needs.{needs}
+use Rattle.reports.proofs.report.queue_delivery.Statement.{statement}
+use Rattle.reports.proofs.report.queue_delivery.Tie as tie
+
+pub queue-delivery-spec : {M : Type 1} → statement M
+queue-delivery-spec =
+    tie.close (tie.spec
+    (λ c κs. search needs)
+    (λ c. search needs)
+    (λ c. search needs)
+    (λ c. queue-late _ _ _ _ _ _ _ _ (c .before .before .delayed .result) (c .before .before .delayed .ensures) (c .enum-told .given .1))
+    (λ c κs. search needs)
+    (λ c κs. search needs)
+    (λ c κs. search needs)
+    (λ c. search needs)
+    (λ c. queue-in _ _ _ _ _ _ _ _ (c .before .before .before .before .before .before .before .before .before .before .before .delayed .result) (c .before .before .before .before .before .before .before .before .before .before .before .delayed .ensures) _ _ _ _ (c .before .before .push .result) (c .before .before .before .before .before .before .before .before .before .time .given .1) (c .before .before .before .before .before .before .before .max .ensures) (c .before .before .before .before .before .emit .ensures) (c .before .before .push .ensures) (c .before .if1 .taken))
+    (λ c. search needs)
+    (λ c. queue-full _ _ _ _ _ _ _ _ (c .before .before .before .before .before .before .before .before .before .before .delayed .result) (c .before .before .before .before .before .before .before .before .before .before .delayed .ensures) _ _ _ _ (c .before .push .result) (c .before .before .before .before .before .before .before .before .time .given .1) (c .before .before .before .before .before .before .max .ensures) (c .before .before .before .before .emit .ensures) (c .before .push .ensures) (c .if1 .left)))

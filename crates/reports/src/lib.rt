@@ -1,0 +1,21 @@
+// How a step of the kernel goes, the log that it writes, and the reports that it sends (step.rs of the Rust).
+pub mod log;
+pub mod report;
+
+use book::state::HaltReason;
+use book::state::KernelState;
+
+// How a step went: to its end; left by an observation that paused or truncated; halted; or at the end of the data.
+pub enum Outcome {
+    Ran,
+    Left,
+    Halt(HaltReason),
+    Ended,
+}
+
+// What a step over the whole state gives: how it went, the state, and how many events the call has raised so far.
+pub struct Step {
+    pub outcome: Outcome,
+    pub state: KernelState,
+    pub raised: u64,
+}

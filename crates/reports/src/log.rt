@@ -1,0 +1,168 @@
+// The log writer.
+use book::ExecKind;
+use book::FillRec;
+use book::Origin;
+use book::ReportRec;
+use book::Side;
+use book::state::HaltReason;
+use book::state::KernelEvent;
+ghost use mathlib.Core.Path.{_≡_};
+ghost use mathlib.Core.List.{[], _∷_};
+ghost use Rattle.book.specs.Numbers.{sideNumber, execNumber, originNumber, flagNumber, haltNumber};
+ghost use Rattle.rules.specs.Log.{reportWords, fillWords, shortWords, eventWords, written};
+ghost use Rattle.reports.specs.Log.{logAt, note};
+
+fn side_word(side: Side) -> u64
+    ensures { λ r. ⌜ r ≡ sideNumber side ⌝ }
+{
+    match side {
+        Side::Buy => 0,
+        Side::Sell => 1,
+    }
+}
+
+fn exec_word(kind: ExecKind) -> u64
+    ensures { λ r. ⌜ r ≡ execNumber kind ⌝ }
+{
+    match kind {
+        ExecKind::Accepted => 0,
+        ExecKind::Rejected => 1,
+        ExecKind::Canceled => 2,
+        ExecKind::CancelRejected => 3,
+        ExecKind::PartialFill => 4,
+        ExecKind::Fill => 5,
+    }
+}
+
+fn origin_word(origin: Origin) -> u64
+    ensures { λ r. ⌜ r ≡ originNumber origin ⌝ }
+{
+    match origin {
+        Origin::Local => 0,
+        Origin::Venue => 1,
+    }
+}
+
+fn flag_word(flag: bool) -> u64
+    ensures { λ r. ⌜ r ≡ flagNumber flag ⌝ }
+{
+    if flag {
+        return 1;
+    }
+    0
+}
+
+fn halt_word(reason: HaltReason) -> u64
+    ensures { λ r. ⌜ r ≡ haltNumber reason ⌝ }
+{
+    match reason {
+        HaltReason::LedgerOverflow => 5,
+        HaltReason::TimeOverflow => 6,
+        HaltReason::CounterOverflow => 7,
+    }
+}
+
+fn report_words(kind: u64, r: ReportRec) -> [u64; 12]
+    ensures { λ w. ⌜ w ≡ reportWords kind r ⌝ }
+{
+    let side = r.side;
+    let exec = r.kind;
+    let origin = r.origin;
+    let s = side_word(side);
+    let e = exec_word(exec);
+    let o = origin_word(origin);
+    let p = flag_word(r.cancel_pending);
+    [
+        kind,
+        r.ts_ns,
+        r.seq,
+        r.order_id,
+        s,
+        e,
+        o,
+        p,
+        r.price,
+        r.qty,
+        r.last,
+        r.cum,
+    ]
+}
+
+fn fill_words(f: FillRec) -> [u64; 12]
+    ensures { λ w. ⌜ w ≡ fillWords f ⌝ }
+{
+    let side = f.side;
+    let s = side_word(side);
+    [
+        2,
+        f.ts_ns,
+        f.exec_id,
+        f.order_id,
+        s,
+        f.price,
+        f.qty,
+        0,
+        0,
+        0,
+        0,
+        0,
+    ]
+}
+
+fn short_words(kind: u64, a: u64, b: u64) -> [u64; 12]
+    ensures { λ w. ⌜ w ≡ shortWords kind a b ⌝ }
+{
+    [kind, a, b, 0, 0, 0, 0, 0, 0, 0, 0, 0]
+}
+
+fn event_words(e: KernelEvent) -> [u64; 12]
+    ensures { λ w. ⌜ w ≡ eventWords e ⌝ }
+{
+    match e {
+        KernelEvent::Report(r) => report_words(1, r),
+        KernelEvent::Fill(f) => fill_words(f),
+        KernelEvent::Delivered(r) => report_words(3, r),
+        KernelEvent::Observed { row, at_ns } => short_words(4, row, at_ns),
+        KernelEvent::RowEnd { row, ts_ns } => short_words(5, row, ts_ns),
+        KernelEvent::EndOfData {
+            dropped_msgs,
+            dropped_obs,
+        } => short_words(6, dropped_msgs, dropped_obs),
+        KernelEvent::Halted(reason) => short_words(7, halt_word(reason), 0),
+        KernelEvent::DroppedMsg { order_id, cancel } => short_words(8, order_id, flag_word(cancel)),
+        KernelEvent::Expired { order_id, at_ns } => short_words(9, order_id, at_ns),
+        KernelEvent::DroppedExpiry { order_id } => short_words(10, order_id, 0),
+    }
+}
+
+// The writer of one event gets the rest of the log, from the first free word on. An event that does not fit whole is not written.
+fn write_event(rest: &mut [u64], e: KernelEvent)
+    ensures { λ _. ⌜ now (rest .exit) ≡ written (now (rest .entry)) (e ∷ []) ⌝ }
+{
+    if rest.len() < 12 {
+        return;
+    }
+    let w = event_words(e);
+    let mut i = 0;
+    while i < 12 {
+        rest[i] = w[i];
+        i += 1;
+    }
+}
+
+// The event behind the `raised` ones before it: the log's part from the next record on is lent to its writer. The count stays at its largest number, which a call never reaches.
+pub fn emit(log: &mut [u64], raised: u64, e: KernelEvent) -> u64
+    ensures { λ r. ⌜ logAt (now (log .exit)) r ≡ note (logAt (now (log .entry)) raised) e ⌝ }
+{
+    if raised == u64::MAX {
+        return raised;
+    }
+    let room = log.len() / 12;
+    let nth = raised as usize;
+    let next = raised + 1;
+    if nth < room {
+        let at = nth * 12;
+        write_event(&mut log[at..], e);
+    }
+    next
+}

@@ -1,0 +1,3 @@
+pub mod PrintLaws
+pub mod Whole
+pub mod Examples

@@ -1,0 +1,81 @@
+-- A line written piece by piece, and the lines of a log written one by one. Assumes nothing.
+use Prim.Native.Nat.{ℕ, suc, _+_, _-_, _*_, _≤_, _<_, min}
+use mathlib.Core.Path.{_≡_, refl, sym, ap, _∙_}
+use mathlib.Core.List.{List, [], _∷_, _++_}
+use native.Mathlib.Omega.{arith}
+use lib.ListN.{take, drop}
+use lib.Seq.{drop-drop}
+use borrow.Author.Tests.{lt-ltb, le-ltb}
+use Rattle.numbers.specs.Choice.{pick}
+use Rattle.text.specs.Bytes.{bytes}
+use Rattle.text.specs.Write.{Text, texted}
+use Rattle.lines.specs.Print.{all, eventLine, printed, recordsOf, callText, filledQty, filledFrom, filledBy}
+use Rattle.text.proofs.WriteLaws.{texted-append}
+
+pub all-piece : (t : Text) (p : List ℕ) (ps : List (List ℕ)) → texted t (all (p ∷ ps)) ≡ texted (texted t p) (all ps)
+unfolding all
+all-piece t p ps = texted-append t p (all ps)
+
+pub all-none : (t : Text) → texted t (all []) ≡ t
+unfolding all texted
+all-none t = refl
+
+-- ---- the records of a log from place i on, of n
+module _ (log : List ℕ) (n i : ℕ) where
+  next : drop 12 (drop (i * 12) log) ≡ drop ((i + 1) * 12) log
+  next =
+      let z : i * 12 + 12 ≡ (i + 1) * 12 = omega arith in
+      rw (drop-drop, z)
+
+  module _ (h : i < n) where
+    one-more : n - i ≡ suc (n - (i + 1))
+    one-more = omega arith
+
+    printed-more : printed (n - i) (drop (i * 12) log) ≡ eventLine (take 12 (drop (i * 12) log)) ++ printed (n - (i + 1)) (drop ((i + 1) * 12) log)
+    unfolding printed
+    printed-more = rw (one-more, next)
+
+    pub call-turn : (t u v : Text) (w : ℕ) → w ≡ 12 → u ≡ texted v (eventLine (take w (drop (i * 12) log))) → t ≡ texted v (printed (n - i) (drop (i * 12) log))
+        → t ≡ texted u (printed (n - (i + 1)) (drop ((i + 1) * 12) log))
+    call-turn t u v w z e f = f ∙ rw (printed-more, texted-append, e, z)
+
+    pub sum-turn : (s u a : ℕ) (w q : ℕ) → w ≡ 12 → q ≡ filledQty (take w (drop (i * 12) log)) → u ≡ min (s + q) 18446744073709551615
+        → a ≡ filledFrom s (n - i) (drop (i * 12) log) → a ≡ filledFrom u (n - (i + 1)) (drop ((i + 1) * 12) log)
+    unfolding filledFrom
+    sum-turn s u a w q z k e f = f ∙ rw (one-more, e, k, z) (ap (λ (l : List ℕ). filledFrom (min (s + filledQty (take 12 (drop (i * 12) log))) 18446744073709551615) (n - (i + 1)) l) next)
+
+  module _ (h : n ≤ i) where
+    none-left : n - i ≡ 0
+    none-left = omega arith
+
+    pub call-end : (t v : Text) → t ≡ texted v (printed (n - i) (drop (i * 12) log)) → v ≡ t
+    unfolding printed texted
+    call-end t v f = sym (rw none-left at f)
+
+    pub sum-end : (s a : ℕ) → a ≡ filledFrom s (n - i) (drop (i * 12) log) → s ≡ a
+    unfolding filledFrom
+    sum-end s a f = sym (rw none-left at f)
+
+pub call-begin : (log : List ℕ) (n : ℕ) (t : Text) → texted t (printed n log) ≡ texted t (printed (n - 0) (drop (0 * 12) log))
+call-begin log n t =
+    let z : n - 0 ≡ n = omega arith in
+    rw z
+
+pub sum-begin : (log : List ℕ) (n s : ℕ) → filledFrom s n log ≡ filledFrom s (n - 0) (drop (0 * 12) log)
+sum-begin log n s =
+    let z : n - 0 ≡ n = omega arith in
+    rw z
+
+-- ---- a call's text, with `cut` and without
+module _ (log : List ℕ) (events n : ℕ) (e : n ≡ recordsOf log events) (t v : Text) (f : v ≡ texted t (printed n log)) where
+  pub call-cut : (u : Text) → n < events → u ≡ texted v (bytes "cut\n") → u ≡ texted t (callText log events)
+  unfolding callText pick
+  call-cut u h g = rw (← e, lt-ltb n events h, texted-append, ← f) g
+
+  pub call-whole : events ≤ n → v ≡ texted t (callText log events)
+  unfolding callText pick texted
+  call-whole h = rw (← e, le-ltb n events h, texted-append, ← f)
+
+pub sum-whole : (log : List ℕ) (sum events n s : ℕ) → n ≡ recordsOf log events → s ≡ filledFrom sum n log → s ≡ filledBy sum log events
+unfolding filledBy
+sum-whole log sum events n s e f = rw (← e) f

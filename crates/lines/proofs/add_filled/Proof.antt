@@ -1,0 +1,34 @@
+-- `lines::add_filled` meets its contract. Assumes nothing.
+use Prim.Native.Nat.{_+_, _-_, _*_, _≤_}
+use mathlib.Core.Path.{_≡_}
+use borrow.Author.Needs.{needs}
+use native.Mathlib.Omega.{arith}
+use lib.ListN.{drop}
+use Rattle.lines.specs.Print.{filledFrom}
+use Rattle.lines.proofs.PrintLaws.{sum-turn, sum-end, sum-begin, sum-whole}
+use Rattle.lines.proofs.add_filled.Statement.{statement}
+use Rattle.lines.proofs.add_filled.Tie as tie
+
+abbrev Inv-loop : tie.InvT-loop
+Inv-loop sum log events n s₀ i₀ s i = (i ≤ n) × (filledFrom s₀ n log ≡ filledFrom s (n - i) (drop (i * 12) log))
+
+abbrev μ-loop : tie.MeasureT-loop
+μ-loop sum log events n s₀ i₀ s i = n - i
+
+pub add-filled-spec : {M : Type 1} → statement M
+add-filled-spec =
+    tie.close (tie.spec Inv-loop μ-loop
+    (λ c κs. search needs)
+    (λ c. (omega arith, sum-begin (c .before .before .args .log .now) (c .records .result) (c .before .before .args .sum)))
+    (λ c. omega (arith, c .before .before .records .ensures))
+    (λ c. omega (arith, c .before .before .records .ensures))
+    (λ c. omega (arith, c .before .before .records .ensures))
+    (λ c. omega (arith, c .before .before .records .ensures))
+    (λ c. omega (arith, c .before .before .records .ensures))
+    (λ c. omega (arith, c .before .before .records .ensures))
+    (λ c κs. search needs)
+    (λ c κs. search needs)
+    (λ c. omega (arith, c .before .before .before .before .before .records .ensures))
+    (λ c. omega arith)
+    (λ c. (omega arith, sum-turn (c .before .before .before .before .before .before .before .args .log .now) (c .before .before .before .before .before .records .result) (c .before .before .before .before .loop .i) (c .before .before .before .loop-test .taken) _ _ _ (c .before .before .before .before .loop .i * 12 + 12 - c .before .before .before .before .loop .i * 12) _ (omega arith) (c .before .filled-qty .ensures) (c .add-up-to .ensures) (c .before .before .before .before .loop .inv .1)))
+    (λ c. sum-whole (c .before .before .before .before .args .log .now) (c .before .before .before .before .args .sum) (c .before .before .before .before .args .events) (c .before .before .records .result) _ (c .before .before .records .ensures) (sum-end (c .before .before .before .before .args .log .now) (c .before .before .records .result) (c .before .loop .i) (c .loop-test .left) _ _ (c .before .loop .inv .1))))

@@ -1,0 +1,39 @@
+-- `lines::put_call` meets its contract. Assumes nothing.
+use Prim.Native.Nat.{_+_, _-_, _*_, _≤_}
+use mathlib.Core.Path.{_≡_, refl, _∙_}
+use borrow.Author.Needs.{needs}
+use native.Mathlib.Omega.{arith}
+use lib.ListN.{length, drop}
+use Rattle.text.specs.Write.{textAt, texted}
+use Rattle.lines.specs.Print.{printed}
+use Rattle.lines.proofs.PrintLaws.{call-turn, call-end, call-begin, call-cut, call-whole}
+use Rattle.lines.proofs.put_call.Statement.{statement}
+use Rattle.lines.proofs.put_call.Tie as tie
+
+abbrev Inv-loop : tie.InvT-loop
+Inv-loop out₀ log events n to₀ i₀ t9 out to i = (i ≤ n) × (length out ≡ length out₀) × (texted (textAt out₀ to₀) (printed n log) ≡ texted (textAt out to) (printed (n - i) (drop (i * 12) log)))
+
+abbrev μ-loop : tie.MeasureT-loop
+μ-loop out₀ log events n to₀ i₀ t9 out to i = n - i
+
+pub put-call-spec : {M : Type 1} → statement M
+put-call-spec =
+    tie.close (tie.spec Inv-loop μ-loop
+    (λ c κs. search needs)
+    (λ c. (omega arith, refl, call-begin (c .before .before .before .args .log .now) (c .records .result) _))
+    (λ c. omega (arith, c .before .before .records .ensures))
+    (λ c. omega (arith, c .before .before .records .ensures))
+    (λ c. omega (arith, c .before .before .before .records .ensures))
+    (λ c. omega (arith, c .before .before .before .records .ensures))
+    (λ c. omega (arith, c .before .before .before .records .ensures))
+    (λ c. omega (arith, c .before .before .before .records .ensures))
+    (λ c κs. search needs)
+    (λ c. omega (arith, c .before .before .before .before .before .before .before .records .ensures))
+    (λ c. omega arith)
+    (λ c. (omega arith, c .before .before .put-event .kept .0 ∙ c .before .before .before .before .before .before .loop .inv .1, call-turn (c .before .before .before .before .before .before .before .before .before .before .args .log .now) (c .before .before .before .before .before .before .before .records .result) (c .before .before .before .before .before .before .loop .i) (c .before .before .before .before .before .loop-test .taken) _ _ _ (c .before .before .before .before .before .before .loop .i * 12 + 12 - c .before .before .before .before .before .before .loop .i * 12) (omega arith) (c .before .before .put-event .ensures) (c .before .before .before .before .before .before .loop .inv .2)))
+    (λ c. search needs)
+    (λ c κs. search needs)
+    (λ c. c .before .before .put-bytes .kept .0 ∙ c .before .before .before .before .before .before .before .loop .inv .1)
+    (λ c. call-cut (c .before .before .before .before .before .before .before .before .before .before .before .args .log .now) (c .before .before .before .before .before .before .before .before .before .before .before .args .events) (c .before .before .before .before .before .before .before .before .records .result) (c .before .before .before .before .before .before .before .before .records .ensures) _ _ (call-end (c .before .before .before .before .before .before .before .before .before .before .before .args .log .now) (c .before .before .before .before .before .before .before .before .records .result) (c .before .before .before .before .before .before .before .loop .i) (c .before .before .before .before .before .before .loop-test .left) _ _ (c .before .before .before .before .before .before .before .loop .inv .2)) _ (c .before .before .before .before .before .if1 .taken) (c .before .before .put-bytes .ensures))
+    (λ c. c .before .before .loop .inv .1)
+    (λ c. call-whole (c .before .before .before .before .before .before .args .log .now) (c .before .before .before .before .before .before .args .events) (c .before .before .before .records .result) (c .before .before .before .records .ensures) _ _ (call-end (c .before .before .before .before .before .before .args .log .now) (c .before .before .before .records .result) (c .before .before .loop .i) (c .before .loop-test .left) _ _ (c .before .before .loop .inv .2)) (c .if1 .left)))

@@ -1,0 +1,21 @@
+-- `runtext::line::fill_line` meets its contract. Assumes nothing.
+use borrow.Author.Needs.{needs}
+use Rattle.numbers.specs.Choice.{pick}
+use Rattle.runtext.specs.Lines.{fillLine}
+use Rattle.runtext.proofs.line.fill_line.Statement.{statement}
+use Rattle.runtext.proofs.line.fill_line.Tie as tie
+
+pub fill-line-spec : {M : Type 1} → statement M
+unfolding fillLine pick
+fill-line-spec =
+    tie.close (tie.spec
+    (λ c κs. search needs)
+    (λ c. search needs)
+    (λ c κs. search needs)
+    (λ c κs. search needs)
+    (λ c. rw (← c .before .before .before .before .field-at .ensures, ← c .before .before .is-same .ensures, c .before .if1 .taken, ← c .now-line .ensures))
+    (λ c. search needs)
+    (λ c κs. search needs)
+    (λ c κs. search needs)
+    (λ c. rw (← c .before .before .before .before .before .before .before .field-at .ensures, ← c .before .before .before .before .before .is-same .ensures, c .before .before .before .before .if1 .left, ← c .before .before .is-same2 .ensures, c .before .if2 .taken, ← c .queue-line .ensures))
+    (λ c. rw (← c .before .before .before .before .before .before .field-at .ensures, ← c .before .before .before .before .is-same .ensures, c .before .before .before .if1 .left, ← c .before .is-same2 .ensures, c .if2 .left)))

@@ -1,0 +1,13 @@
+-- `runtext::read::is_message_due` meets its contract. Assumes nothing.
+use borrow.Author.Tests.{lt-ltb, le-ltb}
+use Rattle.numbers.specs.Choice.{pick}
+use Rattle.runtext.specs.Read.{isMessageDue}
+use Rattle.runtext.proofs.read.is_message_due.Statement.{statement}
+use Rattle.runtext.proofs.read.is_message_due.Tie as tie
+
+pub is-message-due-spec : {M : Type 1} → statement M
+unfolding isMessageDue pick
+is-message-due-spec =
+    tie.close (tie.spec
+    (λ c. rw (lt-ltb _ _ (c .if1 .taken)))
+    (λ c. rw (le-ltb _ _ (c .if1 .left))))

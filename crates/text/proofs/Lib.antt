@@ -1,0 +1,6 @@
+pub mod PartedLaws
+pub mod NumberLaws
+pub mod WriteLaws
+pub mod SignedLaws
+pub mod Whole
+pub mod Examples

@@ -13,7 +13,7 @@ use Rattle.text.proofs.Whole.{texted-whole, word-most}
 use Rattle.lines.specs.Print.{word, all, kindName, reportLine, fillLine, shortLine, oneLine, lineOn, eventLine, printed, recordsOf, callText}
 
 -- a list of words of 64 bits
-pub Words : List ℕ → Type 0
+unfoldable pub Words : List ℕ → Type 0
 Words l = (i : ℕ) → getD l i 0 < 18446744073709551616
 
 words-take : (n : ℕ) (l : List ℕ) → Words l → Words (take n l)

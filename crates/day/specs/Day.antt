@@ -1,0 +1,66 @@
+-- A day's run, turn by turn: "It advances and passes until Terminal."
+use Prim.Native.Nat.{ℕ}
+use mathlib.Core.Bool.{Bool, true, false}
+use mathlib.Core.List.{List}
+use lib.ListN.{length}
+use Rattle.numbers.specs.Choice.{pick}
+use Rattle.book.specs.declared.config.Config.{Config}
+use Rattle.book.specs.declared.state.KernelState.{KernelState}
+use Rattle.book.specs.declared.state.Phase.{Phase}
+use Rattle.book.specs.declared.state.Phase.the-variants.{BeforeMatch, ObsQueued, AwaitDecision, Terminal}
+use Rattle.rules.specs.Calls as calls
+use Rattle.rules.specs.Log.{written}
+use Rattle.kernel.specs.Told.{answerTold}
+use Rattle.kernel.specs.declared.Answer.{Answer}
+use Rattle.kernel.specs.declared.Answer.the-variants as answer
+use Rattle.text.specs.Write.{Text, textAt, texted}
+use Rattle.lines.specs.Print.{callText, filledBy, lastLine}
+use Rattle.day.specs.declared.Turned.{Turned}
+
+abbrev pub isTerminal : Phase → Bool
+isTerminal BeforeMatch = false
+isTerminal ObsQueued = false
+isTerminal AwaitDecision = false
+isTerminal Terminal = true
+
+-- a call ran: it was not refused
+abbrev pub hasRun : Answer → Bool
+hasRun answer.Ran = true
+hasRun (answer.Refused r) = false
+
+-- what a turn leaves: whether the run goes on, the state, the sum of the printed fill reports, the log, and the text of what it prints
+pub record Turn : Type 0 where
+  pub more : Bool
+  pub state : KernelState
+  pub filled : ℕ
+  pub log : List ℕ
+  pub text : Text
+
+-- a turn of a call that raised n events, whose log this is
+abbrev pub turnOf : Bool → KernelState → ℕ → List ℕ → ℕ → List ℕ → Turn
+turnOf more s filled log n out = record { more = more; state = s; filled = filledBy filled log n; log = log; text = texted (textAt out 0) (callText log n) }
+
+-- "passes until Terminal": the run ends at Terminal, else it goes on behind a pass that is not refused
+unfoldable pub passedOn : KernelState → ℕ → List ℕ → ℕ → List ℕ → Turn
+passedOn s filled log n out =
+    pick (isTerminal (s .control .phase))
+    (turnOf false s filled log n out)
+    (turnOf (hasRun (answerTold (calls.pass s .did))) (calls.pass s .state) filled log n out)
+
+-- "It advances and passes": the events of the advance are what is printed, one line each
+unfoldable pub turned : Config → List ℕ → KernelState → ℕ → List ℕ → List ℕ → Turn
+turned c rows s filled log out =
+    passedOn (calls.advance c rows s .state) filled
+    (written log (calls.advance c rows s .events)) (length (calls.advance c rows s .events)) out
+
+-- what a turn prints: the lines of the advance's events, of which its log holds the first
+unfoldable pub printedBy : Config → List ℕ → KernelState → List ℕ → List ℕ
+printedBy c rows s log = callText (written log (calls.advance c rows s .events)) (length (calls.advance c rows s .events))
+
+-- what the code hands back, with the log and the bytes that it was lent
+abbrev pub shown : Turned → List ℕ → List ℕ → Turn
+shown t log out = record { more = t .more; state = t .state; filled = t .filled; log = log; text = textAt out (t .length) }
+
+-- "Last: venue position, live buy and sell, and the summed qty of printed fill reports."
+abbrev pub lastOf : KernelState → ℕ → List ℕ
+lastOf s filled = lastLine (s .gate .«venue_pos» .lots) (s .gate .«live_buy_lots») (s .gate .«live_sell_lots») filled

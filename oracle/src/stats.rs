@@ -39,6 +39,88 @@ impl Counts {
     }
 }
 
+/// The cases of one name: all their calls, and what the first of each came to.
+#[derive(Default)]
+struct Family {
+    calls: u64,
+    first: Counts,
+}
+
+/// The rows of document 01's "Refused or halted", each with the scenarios whose
+/// cases stand on both sides of it (by the start of their names).
+const ROWS: [(&str, &[&str]); 18] = [
+    ("101 row words", &["rows-torn", "order-101-102"]),
+    ("102 list count", &["count-", "order-102-103"]),
+    ("103 not paused", &["pass-phase", "order-103-104"]),
+    ("104 no resume", &["pass-resume", "order-104-105"]),
+    ("105 step", &["pass-step"]),
+    ("7 current row", &["row-none", "row-absent-"]),
+    ("6 expiry time", &["expiry-time", "order-expiry-6-7"]),
+    ("7 message number", &["expiry-seq"]),
+    ("7 stamp", &["stamp-", "order-stamp-gate", "halts-again"]),
+    (
+        "7 release, gate",
+        &["release-", "gate-", "order-gate-price"],
+    ),
+    ("6 delay", &["delay-", "fill-keeps-booked"]),
+    ("7 list full", &["full-"]),
+    ("5 bid + ask", &["mid-"]),
+    ("7 per_ms 0", &["queue-per-"]),
+    ("5 doubled price", &["price-doubled", "order-price-exec"]),
+    (
+        "7 exec id, venue fills",
+        &[
+            "exec-id",
+            "venue-fills",
+            "order-exec-fills",
+            "order-fills-delay",
+        ],
+    ),
+    ("5 agent's position", &["agent-", "order-agent-count-"]),
+    (
+        "7 delivery, end counts",
+        &["delivered-fills-", "local-rejects-", "end-"],
+    ),
+];
+
+/// The edge cases by scenario and by row: how many calls there are around each.
+fn around(families: &BTreeMap<String, Family>) {
+    let mut scenarios: BTreeMap<&str, (&str, u64)> = BTreeMap::new();
+    for (name, family) in families {
+        let parts: Vec<&str> = name.split('.').collect();
+        if let ["edge", scenario, twin] = parts[..] {
+            let (gives, calls) = scenarios.entry(scenario).or_default();
+            *calls += family.calls;
+            if let Some(number) = twin.strip_prefix("hit") {
+                *gives = number;
+            }
+        }
+    }
+    let of = |which: &dyn Fn(&str, &str) -> bool| -> String {
+        let calls: Vec<u64> = scenarios
+            .iter()
+            .filter(|(name, (gives, _))| which(name, gives))
+            .map(|(_, (_, calls))| *calls)
+            .collect();
+        format!(
+            "calls {:9}, scenarios {:3}, the fewest calls of one {:8}",
+            calls.iter().sum::<u64>(),
+            calls.len(),
+            calls.iter().min().unwrap_or(&0),
+        )
+    };
+    println!("around each refusal and halt, both sides:");
+    for number in ["101", "102", "103", "104", "105", "5", "6", "7", ""] {
+        let label = if number.is_empty() { "none" } else { number };
+        println!("  {label:24} {}", of(&|_, gives| gives == number));
+    }
+    println!("around each row of the table:");
+    for (row, starts) in ROWS {
+        let named = |name: &str, _: &str| starts.iter().any(|start| name.starts_with(start));
+        println!("  {row:24} {}", of(&named));
+    }
+}
+
 #[derive(Default)]
 struct Stats {
     cases: u64,
@@ -51,7 +133,7 @@ struct Stats {
     short_logs: u64,
     most: u64,
     /// By the name up to its numbers.
-    families: BTreeMap<String, Counts>,
+    families: BTreeMap<String, Family>,
 }
 
 /// The name without its last two parts, the seed and the index.
@@ -95,6 +177,7 @@ pub fn all(from: impl BufRead, families: bool) -> io::Result<bool> {
             }
             "call" => {
                 t.calls += 1;
+                t.families.entry(of.clone()).or_default().calls += 1;
                 call = number(0);
             }
             "answer" => {
@@ -124,7 +207,8 @@ pub fn all(from: impl BufRead, families: bool) -> io::Result<bool> {
             "status" => {
                 let ends = ending(answer, phase, [number(0), number(1)]);
                 if first {
-                    t.families.entry(of.clone()).or_default().add(&ends[..]);
+                    let family = t.families.entry(of.clone()).or_default();
+                    family.first.add(&ends[..]);
                     first = false;
                 }
                 t.ends.add(ends);
@@ -143,10 +227,11 @@ pub fn all(from: impl BufRead, families: bool) -> io::Result<bool> {
     println!("logs too short   {}", t.short_logs);
     println!("most events      {} in one advance", t.most);
     if families {
-        println!("first call of each family:");
-        for (name, counts) in &t.families {
-            println!("  {name:42} {}", counts.line());
+        println!("calls of each family, and what the first of a case came to:");
+        for (name, family) in &t.families {
+            println!("  {name:42} {:8}  {}", family.calls, family.first.line());
         }
+        around(&t.families);
     }
     Ok(true)
 }

@@ -1,0 +1,26 @@
+-- `compare::entries::put_deliveries` is safe and ends. Assumes nothing.
+use Prim.Native.Nat.{_-_}
+use borrow.Author.Needs.{needs}
+use Rattle.compare.proofs.entries.put_deliveries.Statement.{statement}
+use Rattle.compare.proofs.entries.put_deliveries.Tie as tie
+
+pub put-deliveries-spec : {M : Type 1} → statement M
+put-deliveries-spec =
+    tie.close (tie.spec
+    (λ out₀ at₀ list i₀ t8 i-end out at i. Unit {0})
+    (λ out₀ at₀ list i₀ t8 i-end out at i. i-end - i)
+    (λ c. search needs)
+    (λ c κs. search needs)
+    (λ c κs. search needs)
+    (λ c κs. search needs)
+    (λ c. search needs)
+    (λ c. search needs)
+    (λ c. search needs)
+    (λ c. search needs)
+    (λ c κs. search needs)
+    (λ c κs. search needs)
+    (λ c κs. search needs)
+    (λ c. search needs)
+    (λ c. search needs)
+    (λ c. search needs)
+    (λ c. search needs))

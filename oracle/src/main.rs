@@ -5,6 +5,7 @@ use std::io::{self, BufReader, BufWriter};
 use std::path::Path;
 use std::process::ExitCode;
 
+mod bench;
 mod case;
 mod diff;
 mod make;
@@ -26,7 +27,8 @@ oracle run < CASES > OUTCOMES
 oracle gen KIND SEED COUNT [FIRST] > CASES     KIND: replay, wild or edge
 oracle stats [families] < OUTCOMES
 oracle diff A B
-oracle mutants DIR";
+oracle mutants DIR
+oracle bench DAY ROWS ORDERS REPEATS         DAY: 1 to 4, or 0 for all";
 
 const BUFFER: usize = 1 << 20;
 
@@ -45,6 +47,14 @@ fn command(args: &[&str]) -> io::Result<Option<bool>> {
         ["stats"] => stats::all(from(), false)?,
         ["stats", "families"] => stats::all(from(), true)?,
         ["diff", a, b] => diff::all(Path::new(a), Path::new(b))?,
+        ["bench", numbers @ ..] => {
+            let numbers: Result<Vec<u64>, _> = numbers.iter().map(|n| n.parse()).collect();
+            let Ok([day, rows, orders, repeats]) = numbers.as_deref() else {
+                return Ok(None);
+            };
+            bench::all(*day, *rows, *orders, *repeats);
+            true
+        }
         ["mutants", to] => mutants::all(Path::new(to))?,
         _ => return Ok(None),
     };

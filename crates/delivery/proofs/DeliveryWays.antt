@@ -1,14 +1,14 @@
 -- Deliveries and the end of data: one law for each way out. Assumes nothing.
-use Prim.Native.Nat.{ℕ, suc, _+_, _^_, _<_, _≤_}
+use Prim.Native.Nat.{ℕ, zero, suc, _+_, _<_, _≤_}
 use mathlib.Core.Bool.{Bool, true, false, not}
 use mathlib.Core.List.{List, map}
-use mathlib.Core.Path.{_≡_, sym, _∙_}
+use mathlib.Core.Option.{some}
+use mathlib.Core.Path.{_≡_, refl, sym, ap, _∙_}
 use native.Mathlib.Numerals.{add-one}
+use native.Mathlib.Omega.{arith}
 use lib.ListN.{length, take, drop, getD, drop-of-length-le}
 use lib.Seq.{length-take-le}
 use borrow.Author.Tests.{not-true, not-false, lt-leb, le-leb}
-use denote.Laws.{Is}
-use mir.Val.{Val}
 use Rattle.numbers.specs.Choice.{pick}
 use Rattle.numbers.specs.Position.{onMoved}
 use Rattle.numbers.specs.Words.{fitting, onWord}
@@ -19,9 +19,10 @@ use Rattle.numbers.specs.declared.position.Moved.the-variants.{Out, To}
 use Rattle.numbers.specs.declared.position.Position.{Position}
 use Rattle.lists.specs.Lists.{onSome, live, popped, emptied}
 use Rattle.lists.proofs.Loops.{at-place}
+use Rattle.lists.proofs.Sums.{take-case}
 use Rattle.book.specs.Entries.{blankMsg, blankDelivery, blankObs}
-use Rattle.book.specs.Rows.{msgsRow, observedRow, deliveriesRow, deliveriesTaken}
-use Rattle.book.specs.With.{withControl, withMsgs, withObserved, withAgent, withAccount, withCounters, controlPhase, controlStatus, agentPos, agentDeliveredFills, agentDeliveredLocalRejects, countersEofDroppedMsgs, countersEofDroppedObs}
+use Rattle.book.specs.Rows.{msgsRow, observedRow, deliveriesRow, deliveriesOf, deliveriesTaken}
+use Rattle.book.specs.With.{withControl, withMsgs, withDeliveries, withObserved, withAgent, withAccount, withCounters, controlPhase, controlStatus, agentPos, agentDeliveredFills, agentDeliveredLocalRejects, countersEofDroppedMsgs, countersEofDroppedObs}
 use Rattle.book.specs.declared.Delivery.{Delivery}
 use Rattle.book.specs.declared.FillRec.{FillRec}
 use Rattle.book.specs.declared.MaybeFill.{MaybeFill}
@@ -41,17 +42,17 @@ use Rattle.book.specs.declared.state.KernelEvent.the-variants.{Delivered, EndOf
 use Rattle.book.specs.declared.state.KernelState.{KernelState}
 use Rattle.book.specs.declared.state.Phase.the-variants as phase
 use Rattle.book.specs.declared.state.Status.the-variants as status
-use Rattle.book.proofs.deliveries.Deliveries as owned
 use Rattle.rules.specs.Run as rules
 use Rattle.rules.specs.Matching.{moved}
 use Rattle.rules.specs.Delivery.{countFill, moveAgent, isLocal, isRejected, countReject, onDelivery, deliverNext, deliverAll, droppedEvent, emptyQueues, closeData, endOfData}
-use Rattle.reports.specs.Log.{logAt, note, noted, played, seen}
-use Rattle.delivery.specs.Delivery.{agentIn, withHanded, handedIn}
+use Rattle.reports.specs.Log.{logAt, note, noted, Seen, played, seen}
+use Rattle.delivery.specs.Delivery.{agentIn, handed, withHanded, handedIn, withEmptied, emptiedIn}
 use Rattle.reports.specs.declared.Outcome.the-variants.{Ran, Halt, Ended}
 use Rattle.delivery.specs.declared.AgentStep.{AgentStep}
+use Rattle.delivery.specs.declared.Emptied.{Emptied}
 use Rattle.delivery.specs.declared.Handed.{Handed}
 use Rattle.reports.proofs.Notes.{noted-append}
-use Rattle.reports.proofs.Then.{played-ran, raised-then, Stopped, then-ran, then-stop}
+use Rattle.reports.proofs.Then.{played-ran, Stopped, then-ran, then-stop, then-on, raise-on}
 
 -- ---- move_agent
 module _ (fills : MaybeFill) (agent : AgentView) where
@@ -100,7 +101,7 @@ module _ (report : ReportRec) (agent : AgentView) (rejected : Bool) (r : rejecte
       unfolding countReject pick onWord played noted
       reject-counts k g s n w = rw (← r, not-false rejected h, ← l, not-false local o, ← e, g)
 
--- ---- deliver_next
+-- ---- hand
 -- what follows the agent's move, and the count
 abbrev tells : ReportRec → KernelState → rules.Run
 tells r v = rules.ranTo (withAccount v (onDelivery r (v .account)))
@@ -108,72 +109,93 @@ tells r v = rules.ranTo (withAccount v (onDelivery r (v .account)))
 abbrev counts : ReportRec → KernelState → rules.Run
 counts r u = rules.andThen (countReject r u) (tells r)
 
-module _ (w : List ℕ) (n : ℕ) (deliveries : Deliveries) (agent : AgentView) (account : AgentAccount)
-    (t : DeliveriesTaken) (p : deliveriesTaken t ≡ popped 24 blankDelivery (deliveriesRow deliveries)) where
-  pub deliver-none : t .got ≡ delivery.None → (s : KernelState)
-      → seen (handedIn s (record { outcome = Ran; deliveries = deliveries; agent = agent; account = account; raised = n })) w
-      ≡ played (logAt w n) (deliverNext (withHanded s deliveries agent account))
-  unfolding deliverNext rules.taking onSome
-  deliver-none h s = rw (← p, h) (played-ran (logAt w n) (withHanded s deliveries agent account))
+abbrev moves : Delivery → KernelState → rules.Run
+moves d t = rules.andThen (moveAgent (d .fill) t) (counts (d .report))
 
-  module _ (d : Delivery) (w1 : List ℕ) (m : ℕ) (a : AgentStep) (h : t .got ≡ delivery.Some d) (em : logAt w1 m ≡ note (logAt w n) (Delivered (d .report)))
-      (ma : (s : KernelState) (n : ℕ) (w : List ℕ) → seen (agentIn s n a) w ≡ played (logAt w n) (moveAgent (d .fill) (withAgent s agent))) where
-    opens : (s : KernelState) → played (logAt w n) (deliverNext (withHanded s deliveries agent account))
-        ≡ played (logAt w1 m) (rules.andThen (moveAgent (d .fill) (withHanded s (t .list) agent account)) (counts (d .report)))
-    unfolding deliverNext rules.taking onSome
-    opens s = rw (← p, h, em)
-        (raised-then (logAt w n) (Delivered (d .report)) (withHanded s (t .list) agent account) (λ u. rules.andThen (moveAgent (d .fill) u) (counts (d .report))))
+module _ (w : List ℕ) (n : ℕ) (d : Delivery) (agent : AgentView) (account : AgentAccount) (w1 : List ℕ) (m : ℕ) (a : AgentStep)
+    (em : logAt w1 m ≡ note (logAt w n) (Delivered (d .report)))
+    (ma : (s : KernelState) (n : ℕ) (w : List ℕ) → seen (agentIn s n a) w ≡ played (logAt w n) (moveAgent (d .fill) (withAgent s agent))) where
+  pub hand-stays : Stopped (a .outcome) → (s : KernelState)
+      → seen (handedIn s (record { outcome = a .outcome; agent = a .agent; account = account; raised = m })) w1 ≡ played (logAt w n) (handed d (withHanded s agent account))
+  hand-stays o s =
+      let t : KernelState = withHanded s agent account in
+      raise-on (logAt w n) (Delivered (d .report)) t (moves d) (logAt w1 m) em
+      (then-stop (logAt w1 m) (moveAgent (d .fill) t) (counts (d .report)) (agentIn t m a) w1 (ma t m w1) o)
 
-    pub deliver-stays : Stopped (a .outcome) → (s : KernelState)
-        → seen (handedIn s (record { outcome = a .outcome; deliveries = t .list; agent = a .agent; account = account; raised = m })) w1
-        ≡ played (logAt w n) (deliverNext (withHanded s deliveries agent account))
-    deliver-stays o s =
-        let u : KernelState = withHanded s (t .list) agent account in
-        then-stop (logAt w1 m) (moveAgent (d .fill) u) (counts (d .report)) (agentIn u m a) w1 (ma u m w1) o ∙ sym (opens s)
+  module _ (b : AgentStep) (o : a .outcome ≡ Ran)
+      (mb : (s : KernelState) (n : ℕ) (w : List ℕ) → seen (agentIn s n b) w ≡ played (logAt w n) (countReject (d .report) (withAgent s (a .agent)))) where
+    moved-on : {x : Seen} (s : KernelState) → x ≡ played (logAt w1 m) (counts (d .report) (withHanded s (a .agent) account)) → x ≡ played (logAt w n) (handed d (withHanded s agent account))
+    moved-on s p =
+        let t : KernelState = withHanded s agent account in
+        raise-on (logAt w n) (Delivered (d .report)) t (moves d) (logAt w1 m) em
+        (then-on (logAt w1 m) (moveAgent (d .fill) t) (counts (d .report)) (agentIn t m a) w1 (ma t m w1) o p)
 
-    module _ (b : AgentStep) (o : a .outcome ≡ Ran)
-        (mb : (s : KernelState) (n : ℕ) (w : List ℕ) → seen (agentIn s n b) w ≡ played (logAt w n) (countReject (d .report) (withAgent s (a .agent)))) where
-      moves : (s : KernelState) → played (logAt w n) (deliverNext (withHanded s deliveries agent account))
-          ≡ played (logAt w1 m) (counts (d .report) (withHanded s (t .list) (a .agent) account))
-      moves s =
-          let u : KernelState = withHanded s (t .list) agent account in
-          opens s ∙ then-ran (logAt w1 m) (moveAgent (d .fill) u) (counts (d .report)) (agentIn u m a) w1 (ma u m w1) o
+    pub hand-uncounted : Stopped (b .outcome) → (s : KernelState)
+        → seen (handedIn s (record { outcome = b .outcome; agent = b .agent; account = account; raised = m })) w1 ≡ played (logAt w n) (handed d (withHanded s agent account))
+    hand-uncounted q s =
+        let u : KernelState = withHanded s (a .agent) account in
+        moved-on s (then-stop (logAt w1 m) (countReject (d .report) u) (tells (d .report)) (agentIn u m b) w1 (mb u m w1) q)
 
-      pub deliver-uncounted : Stopped (b .outcome) → (s : KernelState)
-          → seen (handedIn s (record { outcome = b .outcome; deliveries = t .list; agent = b .agent; account = account; raised = m })) w1
-          ≡ played (logAt w n) (deliverNext (withHanded s deliveries agent account))
-      deliver-uncounted q s =
-          let u : KernelState = withHanded s (t .list) (a .agent) account in
-          then-stop (logAt w1 m) (countReject (d .report) u) (tells (d .report)) (agentIn u m b) w1 (mb u m w1) q ∙ sym (moves s)
+    pub hand-told : (told : AgentAccount) → b .outcome ≡ Ran → told ≡ onDelivery (d .report) account → (s : KernelState)
+        → seen (handedIn s (record { outcome = Ran; agent = b .agent; account = told; raised = m })) w1 ≡ played (logAt w n) (handed d (withHanded s agent account))
+    hand-told told q e s =
+        let u : KernelState = withHanded s (a .agent) account in
+        moved-on s (then-on (logAt w1 m) (countReject (d .report) u) (tells (d .report)) (agentIn u m b) w1 (mb u m w1) q
+        (rw e (played-ran (logAt w1 m) (withHanded s (b .agent) (onDelivery (d .report) account)))))
 
-      pub deliver-told : (told : AgentAccount) → b .outcome ≡ Ran → told ≡ onDelivery (d .report) account → (s : KernelState)
-          → seen (handedIn s (record { outcome = Ran; deliveries = t .list; agent = b .agent; account = told; raised = m })) w1
-          ≡ played (logAt w n) (deliverNext (withHanded s deliveries agent account))
-      deliver-told told q e s =
-          let u : KernelState = withHanded s (t .list) (a .agent) account in
-          rw e (played-ran (logAt w1 m) (withHanded s (t .list) (b .agent) (onDelivery (d .report) account)))
-          ∙ sym (moves s ∙ then-ran (logAt w1 m) (countReject (d .report) u) (tells (d .report)) (agentIn u m b) w1 (mb u m w1) q)
+-- ---- the first delivery
+-- what `deliverNext` does with the one that it took is `handed`
+delivers : (s : KernelState) → deliverNext s ≡ rules.taking (popped 24 blankDelivery (deliveriesRow (s .deliveries))) (λ d l. handed d (withDeliveries s (deliveriesOf l))) (rules.ranTo s)
+unfolding deliverNext
+delivers s = refl
 
--- ---- deliver_all: q deliveries are left
--- the count is a number of 64 bits, from what owning the list tells
-pub counted : (l : Deliveries) {vs : List Val} → Is owned.the-row l vs → l .count < 2 ^ 64
-counted l p = p .1 .1 .1 .0 .1
+-- t is what the code has of taking it from the list of s
+module _ (s : KernelState) (t : DeliveriesTaken) (p : deliveriesTaken t ≡ popped 24 blankDelivery (deliveriesRow (s .deliveries))) where
+  pub next-none : t .got ≡ delivery.None → deliverNext s ≡ rules.ranTo s
+  unfolding rules.taking onSome
+  next-none h = rw (delivers s, ← p, h)
 
-module _ (w : List ℕ) (n : ℕ) (d : Deliveries) (g : AgentView) (a : AgentAccount) where
-  pub all-done : (q : ℕ) → q ≡ 0 → (s : KernelState)
-      → seen (handedIn s (record { outcome = Ran; deliveries = d; agent = g; account = a; raised = n })) w ≡ played (logAt w n) (deliverAll q (withHanded s d g a))
-  unfolding deliverAll
-  all-done q e s = rw e (played-ran (logAt w n) (withHanded s d g a))
+  -- k and w1 are what handing it left
+  pub next-handed : (w : List ℕ) (n : ℕ) (d : Delivery) → t .got ≡ delivery.Some d → (k : Handed) (w1 : List ℕ)
+      → ((u : KernelState) → seen (handedIn u k) w1 ≡ played (logAt w n) (handed d (withHanded u (s .agent) (s .account))))
+      → seen (handedIn (withDeliveries s (t .list)) k) w1 ≡ played (logAt w n) (deliverNext s)
+  unfolding rules.taking onSome
+  next-handed w n d h k w1 e = rw (delivers s, ← p, h) (e (withDeliveries s (t .list)))
 
-  module _ (h : Handed) (w1 : List ℕ) (e : (s : KernelState) → seen (handedIn s h) w1 ≡ played (logAt w n) (deliverNext (withHanded s d g a))) (q j : ℕ) (hq : q ≡ suc j) where
-    pub all-turn : h .outcome ≡ Ran → (s : KernelState)
-        → played (logAt w n) (deliverAll q (withHanded s d g a)) ≡ played (logAt w1 (h .raised)) (deliverAll j (withHanded s (h .deliveries) (h .agent) (h .account)))
+-- ---- deliver_all
+pub one-less : (d : Deliveries) (t : DeliveriesTaken) → deliveriesTaken t ≡ popped 24 blankDelivery (deliveriesRow d) → (y : Delivery) → t .got ≡ delivery.Some y → d .count ≡ suc (t .list .count)
+one-less d t p y h =
+    let k = take-case 24 (λ x. x .got ≡ some y → d .count ≡ suc (x .list .count)) blankDelivery 0 (deliveriesRow d)
+    (λ x l o e. omega (arith, o .one-less)) (λ o e. let z : _≡_ {A = ℕ} 0 1 = cc in absurd (omega arith)) in
+    (rw (← p) at k) (rw h)
+
+module _ (w : List ℕ) (n : ℕ) (d : Deliveries) (g : AgentView) (a : AgentAccount)
+    (t : DeliveriesTaken) (p : deliveriesTaken t ≡ popped 24 blankDelivery (deliveriesRow d)) where
+  -- none is left: so it is for any number of turns
+  pub all-done : t .got ≡ delivery.None → (q : ℕ) (s : KernelState)
+      → seen (emptiedIn s (record { outcome = Ran; deliveries = d; agent = g; account = a; raised = n })) w ≡ played (logAt w n) (deliverAll q (withEmptied s d g a))
+  unfolding deliverAll rules.andThen
+  all-done h zero s = played-ran (logAt w n) (withEmptied s d g a)
+  all-done h (suc q) s = rw (next-none (withEmptied s d g a) t p h) (all-done h q s)
+
+  module _ (y : Delivery) (h : t .got ≡ delivery.Some y) (k : Handed) (w1 : List ℕ)
+      (e : (s : KernelState) → seen (handedIn s k) w1 ≡ played (logAt w n) (handed y (withHanded s g a))) where
+    abbrev left : Emptied
+    left = record { outcome = k .outcome; deliveries = t .list; agent = k .agent; account = k .account; raised = k .raised }
+
+    step : (s : KernelState) → seen (emptiedIn s left) w1 ≡ played (logAt w n) (deliverNext (withEmptied s d g a))
+    step s = next-handed (withEmptied s d g a) t p w n y h k w1 e
+
+    opens : (s : KernelState) → deliverAll (d .count) (withEmptied s d g a) ≡ rules.andThen (deliverNext (withEmptied s d g a)) (deliverAll (t .list .count))
     unfolding deliverAll
-    all-turn o s = rw hq (then-ran (logAt w n) (deliverNext (withHanded s d g a)) (deliverAll j) (handedIn s h) w1 (e s) o)
+    opens s = ap (λ q. deliverAll q (withEmptied s d g a)) (one-less d t p y h)
 
-    pub all-stop : Stopped (h .outcome) → (s : KernelState) → seen (handedIn s h) w1 ≡ played (logAt w n) (deliverAll q (withHanded s d g a))
-    unfolding deliverAll
-    all-stop o s = rw hq (then-stop (logAt w n) (deliverNext (withHanded s d g a)) (deliverAll j) (handedIn s h) w1 (e s) o)
+    pub all-turn : k .outcome ≡ Ran → (s : KernelState)
+        → played (logAt w1 (k .raised)) (deliverAll (t .list .count) (withEmptied s (t .list) (k .agent) (k .account))) ≡ played (logAt w n) (deliverAll (d .count) (withEmptied s d g a))
+    all-turn o s = sym (ap (played (logAt w n)) (opens s) ∙ then-ran (logAt w n) (deliverNext (withEmptied s d g a)) (deliverAll (t .list .count)) (emptiedIn s left) w1 (step s) o)
+
+    pub all-stop : Stopped (k .outcome) → (s : KernelState) → seen (emptiedIn s left) w1 ≡ played (logAt w n) (deliverAll (d .count) (withEmptied s d g a))
+    all-stop o s = then-stop (logAt w n) (deliverNext (withEmptied s d g a)) (deliverAll (t .list .count)) (emptiedIn s left) w1 (step s) o ∙ ap (played (logAt w n)) (sym (opens s))
 
 -- ---- tell_dropped: from place i on
 pub dropped-none : (w : List ℕ) (n : ℕ) (msgs : Msgs) → 16 < msgs .count → logAt w n ≡ noted (logAt w n) (map droppedEvent (live 16 (msgsRow msgs)))
@@ -222,12 +244,12 @@ module _ (w w1 : List ℕ) (raised n : ℕ) (s : KernelState) (m : Msgs) (o : Ob
     close-ends w2 k y h2 e3 = rw (← hm, ← ho, ← e, h, ← e2, h2, ← noted-append, ← em, ← e3)
 
 -- ---- end_of_data
-module _ (w w1 : List ℕ) (n : ℕ) (s : KernelState) (h : Handed)
-    (e : seen (handedIn s h) w1 ≡ played (logAt w n) (deliverAll (s .deliveries .count) s)) where
-  pub end-stops : Stopped (h .outcome) → seen (handedIn s h) w1 ≡ played (logAt w n) (endOfData s)
+module _ (w w1 : List ℕ) (n : ℕ) (s : KernelState) (h : Emptied)
+    (e : seen (emptiedIn s h) w1 ≡ played (logAt w n) (deliverAll (s .deliveries .count) s)) where
+  pub end-stops : Stopped (h .outcome) → seen (emptiedIn s h) w1 ≡ played (logAt w n) (endOfData s)
   unfolding endOfData
-  end-stops o = then-stop (logAt w n) (deliverAll (s .deliveries .count) s) closeData (handedIn s h) w1 e o
+  end-stops o = then-stop (logAt w n) (deliverAll (s .deliveries .count) s) closeData (emptiedIn s h) w1 e o
 
-  pub end-closes : h .outcome ≡ Ran → played (logAt w1 (h .raised)) (closeData (handedIn s h .state)) ≡ played (logAt w n) (endOfData s)
+  pub end-closes : h .outcome ≡ Ran → played (logAt w1 (h .raised)) (closeData (emptiedIn s h .state)) ≡ played (logAt w n) (endOfData s)
   unfolding endOfData
-  end-closes o = sym (then-ran (logAt w n) (deliverAll (s .deliveries .count) s) closeData (handedIn s h) w1 e o)
+  end-closes o = sym (then-ran (logAt w n) (deliverAll (s .deliveries .count) s) closeData (emptiedIn s h) w1 e o)

@@ -1,4 +1,5 @@
 // Deliveries, and the end of data.
+use book::Delivery;
 use book::ExecKind;
 use book::MaybeFill;
 use book::MsgKind;
@@ -30,9 +31,9 @@ ghost use Rattle.lists.specs.Lists.{live};
 ghost use Rattle.book.specs.Rows.{msgsRow};
 ghost use Rattle.book.specs.With.{withAgent};
 ghost use Rattle.book.specs.declared.state.KernelState.{KernelState};
-ghost use Rattle.rules.specs.Delivery.{moveAgent, countReject, isRejected, isLocal, deliverNext, deliverAll, droppedBy, droppedEvent, closeData, endOfData};
+ghost use Rattle.rules.specs.Delivery.{moveAgent, countReject, isRejected, isLocal, deliverAll, droppedBy, droppedEvent, closeData, endOfData};
 ghost use Rattle.reports.specs.Log.{logAt, played, seen, noted};
-ghost use Rattle.delivery.specs.Delivery.{agentIn, handedIn, withHanded};
+ghost use Rattle.delivery.specs.Delivery.{agentIn, handed, handedIn, withHanded, emptiedIn, withEmptied};
 
 // What a delivery does to the agent.
 pub struct AgentStep {
@@ -40,8 +41,16 @@ pub struct AgentStep {
     pub agent: AgentView,
 }
 
-// What a delivery changes of the state.
+// What a delivery changes of the state, beside its leaving the list.
 pub struct Handed {
+    pub outcome: Outcome,
+    pub agent: AgentView,
+    pub account: AgentAccount,
+    pub raised: u64,
+}
+
+// What delivering all changes of the state.
+pub struct Emptied {
     pub outcome: Outcome,
     pub deliveries: Deliveries,
     pub agent: AgentView,
@@ -139,28 +148,16 @@ fn count_reject(report: ReportRec, agent: AgentView) -> AgentStep
     }
 }
 
-// The first delivery reaches the agent.
-pub fn deliver_next(
+// A delivery that has left the list reaches the agent.
+pub fn hand(
     log: &mut [u64],
     raised: u64,
-    deliveries: Deliveries,
+    delivery: Delivery,
     agent: AgentView,
     account: AgentAccount,
 ) -> Handed
-    ensures { λ r. ⌜ ((s : KernelState) → seen (handedIn s r) (now (log .exit)) ≡ played (logAt (now (log .entry)) raised) (deliverNext (withHanded s deliveries agent account))) ⌝ }
+    ensures { λ r. ⌜ ((s : KernelState) → seen (handedIn s r) (now (log .exit)) ≡ played (logAt (now (log .entry)) raised) (handed delivery (withHanded s agent account))) ⌝ }
 {
-    let taken = deliveries.pop_front();
-    let got = taken.got;
-    let MaybeDelivery::Some(delivery) = got else {
-        return Handed {
-            outcome: Outcome::Ran,
-            deliveries,
-            agent,
-            account,
-            raised,
-        };
-    };
-    let rest = taken.list;
     let report = delivery.report;
     let n = emit(log, raised, KernelEvent::Delivered(report));
     let fill = delivery.fill;
@@ -170,7 +167,6 @@ pub fn deliver_next(
     let Outcome::Ran = o else {
         return Handed {
             outcome: o,
-            deliveries: rest,
             agent: moved,
             account,
             raised: n,
@@ -182,7 +178,6 @@ pub fn deliver_next(
     let Outcome::Ran = p else {
         return Handed {
             outcome: p,
-            deliveries: rest,
             agent: counted,
             account,
             raised: n,
@@ -191,7 +186,6 @@ pub fn deliver_next(
     let told = on_delivery(account, report);
     Handed {
         outcome: Outcome::Ran,
-        deliveries: rest,
         agent: counted,
         account: told,
         raised: n,
@@ -205,29 +199,31 @@ fn deliver_all(
     deliveries: Deliveries,
     agent: AgentView,
     account: AgentAccount,
-) -> Handed
-    ensures { λ r. ⌜ ((s : KernelState) → seen (handedIn s r) (now (log .exit)) ≡ played (logAt (now (log .entry)) raised) (deliverAll (deliveries .count) (withHanded s deliveries agent account))) ⌝ }
+) -> Emptied
+    ensures { λ r. ⌜ ((s : KernelState) → seen (emptiedIn s r) (now (log .exit)) ≡ played (logAt (now (log .entry)) raised) (deliverAll (deliveries .count) (withEmptied s deliveries agent account))) ⌝ }
 {
-    let count = deliveries.count;
     let mut d = deliveries;
     let mut g = agent;
     let mut a = account;
     let mut n = raised;
-    let mut k = 0;
-    while k < count {
-        let h = deliver_next(log, n, d, g, a);
-        let o = h.outcome;
-        let Outcome::Ran = o else {
-            return h;
+    let outcome = loop {
+        let taken = d.pop_front();
+        let got = taken.got;
+        let MaybeDelivery::Some(delivery) = got else {
+            break Outcome::Ran;
         };
-        d = h.deliveries;
+        d = taken.list;
+        let h = hand(log, n, delivery, g, a);
         g = h.agent;
         a = h.account;
         n = h.raised;
-        k += 1;
-    }
-    Handed {
-        outcome: Outcome::Ran,
+        let o = h.outcome;
+        let Outcome::Ran = o else {
+            break o;
+        };
+    };
+    Emptied {
+        outcome,
         deliveries: d,
         agent: g,
         account: a,

@@ -2,16 +2,19 @@
 use Prim.Native.Nat.{ℕ, _<_, _≤_, max}
 use mathlib.Core.List.{List}
 use mathlib.Core.Option.{Option, none, some}
-use mathlib.Core.Path.{_≡_, sym, ap, _∙_}
+use mathlib.Core.Path.{_≡_, refl, sym, ap, _∙_}
+use native.Mathlib.Omega.{arith}
 use borrow.Author.Tests.{lt-leb, le-leb}
 use Rattle.numbers.specs.Choice.{pick}
 use Rattle.numbers.specs.declared.MaybeU64.the-variants as u64
 use Rattle.lists.specs.Lists.{onSome, popped}
-use Rattle.book.specs.Entries.{blankObs}
-use Rattle.book.specs.Rows.{observedRow, observedTaken}
+use Rattle.book.specs.Entries.{blankDelivery, blankObs}
+use Rattle.book.specs.Rows.{deliveriesRow, deliveriesTaken, observedRow, observedTaken}
 use Rattle.book.specs.With.{withClock, clockNowNs, agentLastObsRow}
 use Rattle.book.specs.declared.ObsEntry.{ObsEntry}
 use Rattle.book.specs.declared.config.Config.{Config}
+use Rattle.book.specs.declared.deliveries.DeliveriesTaken.{DeliveriesTaken}
+use Rattle.book.specs.declared.deliveries.MaybeDelivery.the-variants as delivery
 use Rattle.book.specs.declared.observed.MaybeObs.the-variants as obs
 use Rattle.book.specs.declared.observed.Observed.{Observed}
 use Rattle.book.specs.declared.observed.ObservedTaken.{ObservedTaken}
@@ -27,8 +30,10 @@ use Rattle.kernel.specs.Events.{classTold, nextTold, truncated, pausedAt
 use Rattle.reports.specs.declared.Outcome.the-variants.{Ran, Left}
 use Rattle.reports.specs.declared.Step.{Step}
 use Rattle.kernel.specs.declared.events.Class.{Class}
+use Rattle.kernel.specs.declared.events.Class.the-variants as class
 use Rattle.kernel.specs.declared.events.Next.{Next}
 use Rattle.kernel.specs.declared.events.Next.the-variants.{Nothing, At}
+use Rattle.delivery.proofs.DeliveryWays.{next-none}
 use Rattle.reports.proofs.Then.{played-ran, Stopped, then-ran, then-stop, state-is, ran-too}
 
 -- ---- pop_observation
@@ -127,3 +132,14 @@ module _ (cfg : Config) (until : ℕ) (s : KernelState) (x : Next) (e : nextTold
 
     pub walk-falls : a .outcome ≡ Ran → walk.weight (a .state) < walk.weight s
     walk-falls o = rw (state-is (logAt w n) handled a w1 step) (event-falls cfg until s handled turn (ran-too (logAt w n) handled a w1 step o))
+
+  -- a delivery is next: so one comes out of the list, and this cannot be
+  pub walk-none : (k : Class) (t : ℕ) (h : x ≡ At k t) (now : ℕ) (hj : k ≡ class.Delivery) (m : now ≡ max t (s .clock .«now_ns»))
+      (d : DeliveriesTaken) → deliveriesTaken d ≡ popped 24 blankDelivery (deliveriesRow (s .deliveries)) → d .got ≡ delivery.None
+      → seen (record { outcome = Ran; state = withClock s (clockNowNs (s .clock) now); raised = n }) w ≡ played (logAt w n) (walk.runEvents cfg until s)
+  unfolding walk.weight
+  walk-none k t h now hj m d p o =
+      let u : KernelState = withClock s (clockNowNs (s .clock) now) in
+      let f : walk.weight u < walk.weight s = walk-falls k t h class.Delivery now hj m (record { outcome = Ran; state = u; raised = n }) w
+      (played-ran (logAt w n) u ∙ ap (played (logAt w n)) (sym (next-none u d p o))) refl in
+      absurd (omega arith)

@@ -2,25 +2,30 @@
 use Prim.Native.Nat.{ℕ, _+_, _/_, _≤_, _<_, max}
 use mathlib.Core.Bool.{true, false}
 use mathlib.Core.List.{List}
-use mathlib.Core.Option.{none, some}
+use mathlib.Core.Logic.{inl, inr}
+use mathlib.Core.Option.{Option, none, some}
 use mathlib.Core.Path.{_≡_, refl, sym, ap, _∙_, subst}
+use native.Mathlib.Omega.{arith}
 use lib.ListN.{length}
 use borrow.Author.Tests.{lt-ltb, le-ltb, le-leb, lt-leb}
 use Rattle.numbers.specs.Choice.{pick}
 use Rattle.numbers.specs.Words.{fits, fitting, onWord}
 use Rattle.numbers.specs.declared.MaybeU64.{MaybeU64}
 use Rattle.numbers.specs.declared.MaybeU64.the-variants.{None, Some}
-use Rattle.lists.specs.Lists.{onSome, pushed}
+use Rattle.lists.specs.Lists.{onSome, pushed, popped}
+use Rattle.lists.proofs.Cases.{some-case, pick-case}
+use Rattle.book.specs.Entries.{blankObs}
 use Rattle.book.specs.Rows.{observedRow, observedPut}
-use Rattle.book.specs.With.{withControl, withClock, clockNowNs, clockLastObservedNs, controlPhase}
+use Rattle.book.specs.With.{withControl, withClock, withGate, clockNowNs, clockLastObservedNs, controlPhase}
+use Rattle.book.specs.declared.VenueMsg.{VenueMsg}
 use Rattle.book.specs.declared.config.Config.{Config}
 use Rattle.book.specs.declared.config.KernelTick.{KernelTick}
-use Rattle.book.specs.declared.config.MaybeTick.{MaybeTick}
-use Rattle.book.specs.declared.config.MaybeTick.the-variants as tick
 use Rattle.book.specs.declared.observed.Observed.{Observed}
 use Rattle.book.specs.declared.observed.ObservedPut.{ObservedPut}
 use Rattle.book.specs.declared.state.Clock.{Clock}
 use Rattle.book.specs.declared.state.Control.{Control}
+use Rattle.book.specs.declared.state.GateState.{GateState}
+use Rattle.book.specs.declared.state.HaltReason.{HaltReason}
 use Rattle.book.specs.declared.state.HaltReason.the-variants.{LedgerOverflow, TimeOverflow, CounterOverflow}
 use Rattle.book.specs.declared.state.KernelEvent.the-variants.{RowEnd}
 use Rattle.book.specs.declared.state.KernelState.{KernelState}
@@ -29,30 +34,33 @@ use Rattle.models.specs.Told.{delayTold}
 use Rattle.models.specs.declared.latency.Arrival.{Arrival}
 use Rattle.rules.specs.Run as rules
 use Rattle.rules.specs.Report.{delay, delayed}
-use Rattle.rules.specs.Matching.{matchRow}
-use Rattle.rules.specs.Events.{nextOf, eventTurn, clockTo, truncates, runEvents}
-use Rattle.rules.specs.Delivery.{endOfData}
-use Rattle.rules.specs.Phases.{rowAt, queueObservation, matchPhase, beforeMatch, settleRow, settle, nextRow, obsQueued, toNextRow, phaseTurn, turns, phases}
-use Rattle.rules.proofs.Falls.{walk-last}
+use Rattle.rules.specs.Matching.{matchFrom, sweep, sweepFrom, marked, matchRow}
+use Rattle.rules.specs.Events.{nextOf, eventTurn, clockTo, weight, popObservation, runEvents}
+use Rattle.rules.specs.Delivery.{closeData, endOfData}
+use Rattle.rules.specs.Phases.{rowAt, queueObservation, matchPhase, beforeMatch, settleRow, settle, nextRow, obsQueued, phaseTurn, turns, phases}
+use Rattle.rules.proofs.Cases.{word-case}
+use Rattle.rules.proofs.Falls.{event-falls, walk-last}
 use Rattle.rules.proofs.Fewer.{phase-falls, phases-again, phases-last}
-use Rattle.reports.specs.Log.{Log, logAt, note, noted, Seen, played, seen}
-use Rattle.kernel.specs.Events.{nextTold}
-use Rattle.kernel.specs.Phases.{tickTold, withObs, obsIn}
+use Rattle.reports.specs.Log.{Log, logAt, note, noted, told, Seen, played, seen}
+use Rattle.kernel.specs.Events.{nextTold, truncated}
+use Rattle.kernel.specs.Phases.{withObs, obsIn, toRow, workOn, worked, turnBy, onwardTo}
+use Rattle.matching.specs.Matching.{matchedIn, withSwept, sweptIn}
 use Rattle.reports.specs.declared.Outcome.{Outcome}
 use Rattle.reports.specs.declared.Outcome.the-variants.{Ran, Halt}
 use Rattle.reports.specs.declared.Step.{Step}
+use Rattle.kernel.specs.declared.events.Class.{Class}
+use Rattle.kernel.specs.declared.events.Class.the-variants.{Observation}
 use Rattle.kernel.specs.declared.events.Next.{Next}
-use Rattle.kernel.specs.declared.events.Next.the-variants.{Nothing}
-use Rattle.kernel.specs.declared.phases.ObsStep.{ObsStep}
-use Rattle.reports.proofs.Then.{played-ran, played-halt, then-ran, then-stop, Stopped, state-is, ran-too, fits-none, fits-some}
-
--- ---- the walk, where nothing is due
-pub walk-none : (l : Log) (cfg : Config) (until : ℕ) (s : KernelState) (n : Next) → nextTold n ≡ nextOf until s → n ≡ Nothing
-    → record { outcome = Ran; state = s; log = l } ≡ played l (runEvents cfg until s)
-walk-none l cfg until s n e h = played-ran l s ∙ ap (played l) (sym (walk-last cfg until s (rules.ranTo s) turn))
-  where
-    turn : eventTurn cfg until s ≡ rules.last (rules.ranTo s)
-    turn = unfold eventTurn in rw (← e, h)
+use Rattle.kernel.specs.declared.events.Next.the-variants.{Nothing, At}
+use Rattle.kernel.specs.declared.phases.Job.{Job}
+use Rattle.kernel.specs.declared.phases.Job.the-variants.{Stop, Fail, First, Row}
+use Rattle.kernel.specs.declared.phases.Onward.{Onward}
+use Rattle.kernel.specs.declared.phases.Onward.the-variants.{End, To}
+use Rattle.kernel.specs.declared.phases.Work.{Work}
+use Rattle.kernel.specs.declared.phases.Work.the-variants.{Match, Settle}
+use Rattle.matching.specs.declared.Matched.{Matched}
+use Rattle.matching.specs.declared.Swept.{Swept}
+use Rattle.reports.proofs.Then.{played-ran, then-ran, then-stop, then-on, Stopped, state-is, ran-too, fits-none, fits-some}
 
 -- ---- queue_observation
 module _ (w : List ℕ) (n : ℕ) (cfg : Config) (index : ℕ) (row : KernelTick) (rng : ℕ) (clock : Clock) (observed : Observed) (control : Control)
@@ -78,105 +86,226 @@ module _ (w : List ℕ) (n : ℕ) (cfg : Config) (index : ℕ) (row : KernelTick
     obs-in o k q s = rw (← e, h, ← m, ← p, o, q)
 
 -- the state with its clock at a time
-abbrev clockAt : ℕ → KernelState → KernelState
+abbrev pub clockAt : ℕ → KernelState → KernelState
 clockAt now s = withClock s (clockNowNs (s .clock) now)
 
--- ---- match_phase: the walk, the match, the observation
-module _ (l : Log) (cfg : Config) (i : ℕ) (row : KernelTick) (s : KernelState) (a : Step) (w : List ℕ) (e : seen a w ≡ played l (runEvents cfg (row .«ts_ns») s)) where
-  pub match-stop : Stopped (a .outcome) → seen a w ≡ played l (matchPhase cfg i row s)
-  unfolding matchPhase
-  match-stop m = then-stop l (runEvents cfg (row .«ts_ns») s) _ a w e m
+-- the state at the match pass: its clock risen, its gate marked
+abbrev pub marking : KernelState → ℕ → GateState → KernelState
+marking s now g = withGate (clockAt now s) g
 
-  module _ (h : a .outcome ≡ Ran) (now : ℕ) (now-is : now ≡ max (row .«ts_ns») (a .state .clock .«now_ns»))
-      (b : Step) (v : List ℕ) (f : seen b v ≡ played (logAt w (a .raised)) (matchRow cfg row (clockAt now (a .state)))) where
-    matched : played l (matchPhase cfg i row s) ≡ played (logAt w (a .raised)) (rules.andThen (matchRow cfg row (clockAt now (a .state))) (queueObservation cfg i row))
-    unfolding matchPhase
-    matched = then-ran l (runEvents cfg (row .«ts_ns») s) _ a w e h ∙ rw (← now-is)
+-- what a row does with the booked orders: the match pass, then the sweep
+abbrev pub booked : Config → KernelTick → KernelState → rules.Run
+booked cfg row u = rules.andThen (matchFrom cfg row (u .orders .count) 0 u) sweep
 
-    pub match-stop-2 : Stopped (b .outcome) → seen b v ≡ played l (matchPhase cfg i row s)
-    match-stop-2 m = then-stop (logAt w (a .raised)) (matchRow cfg row (clockAt now (a .state))) (queueObservation cfg i row) b v f m ∙ sym matched
+-- r ran to its end: what comes after it goes on from s1 and l1
+abbrev pub Goes : Log → rules.Run → KernelState → Log → Type 0
+Goes l r s1 l1 = (k : KernelState → rules.Run) → played l1 (k s1) ≡ played l (rules.andThen r k)
 
-    pub match-on : b .outcome ≡ Ran → (x : Seen) → x ≡ played (logAt v (b .raised)) (queueObservation cfg i row (b .state)) → x ≡ played l (matchPhase cfg i row s)
-    match-on g x q = q ∙ sym (matched ∙ then-ran (logAt w (a .raised)) (matchRow cfg row (clockAt now (a .state))) (queueObservation cfg i row) b v f g)
+-- ---- job_of
+module _ (cfg : Config) (rows : List ℕ) (s : KernelState) where
+  -- the row of a number is there, or it is not
+  match-row-at : (i : ℕ) (x : Option KernelTick) → turnBy (workOn Match i x) cfg rows s ≡ rules.again (onSome x (λ row. matchPhase cfg i row s) (rules.haltAt CounterOverflow s))
+  unfolding onSome
+  match-row-at i none = refl
+  match-row-at i (some row) = refl
 
--- ---- settle_row: the walk, then the row's end
-module _ (l : Log) (cfg : Config) (i : ℕ) (row : KernelTick) (s : KernelState) (a : Step) (w : List ℕ) (e : seen a w ≡ played l (runEvents cfg (row .«ts_ns») s)) where
-  pub settle-stop : Stopped (a .outcome) → seen a w ≡ played l (settleRow cfg i row s)
-  unfolding settleRow
-  settle-stop m = then-stop l (runEvents cfg (row .«ts_ns») s) _ a w e m
+  settle-row-at : (i : ℕ) (x : Option KernelTick) → turnBy (workOn Settle i x) cfg rows s ≡ rules.again (rules.andThen (onSome x (λ row. settleRow cfg i row s) (rules.haltAt CounterOverflow s)) (nextRow cfg rows))
+  unfolding onSome rules.andThen
+  settle-row-at i none = refl
+  settle-row-at i (some row) = refl
 
-  module _ (h : a .outcome ≡ Ran) (sum : MaybeU64) (f : sum ≡ fitting (row .bid + row .ask)) where
-    pub settle-past : sum ≡ None → record { outcome = Halt LedgerOverflow; state = a .state; log = logAt w (a .raised) } ≡ played l (settleRow cfg i row s)
-    unfolding settleRow pick
-    settle-past g = played-halt (logAt w (a .raised)) LedgerOverflow (a .state) ∙ sym (then-ran l (runEvents cfg (row .«ts_ns») s) _ a w e h ∙ rw (fits-none (row .bid + row .ask) (sym f ∙ g)))
+module _ (rows : List ℕ) (c : Control) where
+  module _ (p : c .phase ≡ BeforeMatch) where
+    pub before-none : c .«cur_row» ≡ None → (cfg : Config) (s : KernelState) → turnBy Fail cfg rows (withControl s c) ≡ phaseTurn cfg rows (withControl s c)
+    unfolding phaseTurn beforeMatch onWord
+    before-none h cfg s = rw (p, h)
 
-    pub settle-end : (m : ℕ) → sum ≡ Some m → (n : ℕ) (v : List ℕ) → logAt v n ≡ note (logAt w (a .raised)) (RowEnd i (row .«ts_ns»))
-        → record { outcome = Ran; state = a .state; log = logAt v n } ≡ played l (settleRow cfg i row s)
-    unfolding settleRow pick played noted
-    settle-end m g n v k = sym (then-ran l (runEvents cfg (row .«ts_ns») s) _ a w e h ∙ rw (fits-some (row .bid + row .ask) m (sym f ∙ g), ← k))
+    pub before-row : (i : ℕ) → c .«cur_row» ≡ Some i → (x : Job) → x ≡ workOn Match i (rowAt rows i) → (cfg : Config) (s : KernelState) → turnBy x cfg rows (withControl s c) ≡ phaseTurn cfg rows (withControl s c)
+    unfolding phaseTurn beforeMatch onWord
+    before-row i h x e cfg s = ap (λ (j : Job). turnBy j cfg rows (withControl s c)) e ∙ match-row-at cfg rows (withControl s c) i (rowAt rows i) ∙ rw (p, h)
 
--- ---- the row of `cur_row`
-module _ (l : Log) (cfg : Config) (rows : List ℕ) (s : KernelState) where
-  pub before-none : s .control .«cur_row» ≡ None → record { outcome = Halt CounterOverflow; state = s; log = l } ≡ played l (beforeMatch cfg rows s)
-  unfolding beforeMatch onWord played noted
-  before-none h = rw h
+  module _ (p : c .phase ≡ ObsQueued) where
+    pub queued-none : c .«cur_row» ≡ None → (cfg : Config) (s : KernelState) → turnBy First cfg rows (withControl s c) ≡ phaseTurn cfg rows (withControl s c)
+    unfolding phaseTurn obsQueued settle onWord rules.andThen
+    queued-none h cfg s = rw (p, h)
 
-  pub settle-none : s .control .«cur_row» ≡ None → record { outcome = Ran; state = s; log = l } ≡ played l (settle cfg rows s)
-  unfolding settle onWord played noted
-  settle-none h = rw h
+    pub queued-row : (i : ℕ) → c .«cur_row» ≡ Some i → (x : Job) → x ≡ workOn Settle i (rowAt rows i) → (cfg : Config) (s : KernelState) → turnBy x cfg rows (withControl s c) ≡ phaseTurn cfg rows (withControl s c)
+    unfolding phaseTurn obsQueued settle onWord
+    queued-row i h x e cfg s = ap (λ (j : Job). turnBy j cfg rows (withControl s c)) e ∙ settle-row-at cfg rows (withControl s c) i (rowAt rows i) ∙ rw (p, h)
 
-  module _ (i : ℕ) (h : s .control .«cur_row» ≡ Some i) (m : MaybeTick) (e : tickTold m ≡ rowAt rows i) where
-    pub before-past : m ≡ tick.None → record { outcome = Halt CounterOverflow; state = s; log = l } ≡ played l (beforeMatch cfg rows s)
-    unfolding beforeMatch onWord onSome played noted
-    before-past g = rw (h, ← e, g)
+  pub paused : c .phase ≡ AwaitDecision → (cfg : Config) (s : KernelState) → turnBy Stop cfg rows (withControl s c) ≡ phaseTurn cfg rows (withControl s c)
+  unfolding phaseTurn
+  paused p cfg s = rw p
 
-    pub before-row : (row : KernelTick) → m ≡ tick.Some row → (x : Seen) → x ≡ played l (matchPhase cfg i row s) → x ≡ played l (beforeMatch cfg rows s)
-    unfolding beforeMatch onWord onSome
-    before-row row g x q = q ∙ rw (h, ← e, g)
+  pub over : c .phase ≡ Terminal → (cfg : Config) (s : KernelState) → turnBy Stop cfg rows (withControl s c) ≡ phaseTurn cfg rows (withControl s c)
+  unfolding phaseTurn
+  over p cfg s = rw p
 
-    pub settle-no-row : m ≡ tick.None → record { outcome = Halt CounterOverflow; state = s; log = l } ≡ played l (settle cfg rows s)
-    unfolding settle onWord onSome played noted
-    settle-no-row g = rw (h, ← e, g)
-
-    pub settle-a-row : (row : KernelTick) → m ≡ tick.Some row → (x : Seen) → x ≡ played l (settleRow cfg i row s) → x ≡ played l (settle cfg rows s)
-    unfolding settle onWord onSome
-    settle-a-row row g x q = q ∙ rw (h, ← e, g)
-
--- ---- the next row
-module _ (l : Log) (cfg : Config) (rows : List ℕ) (s : KernelState) where
-  pub next-end : length rows / 5 ≤ s .control .cursor → (x : Seen) → x ≡ played l (endOfData s) → x ≡ played l (nextRow cfg rows s)
+-- ---- next_row
+module _ (cfg : Config) (rows : List ℕ) (c : Control) where
+  pub next-end : length rows / 5 ≤ c .cursor → (s : KernelState) → onwardTo End (withControl s c) ≡ nextRow cfg rows (withControl s c)
   unfolding nextRow pick
-  next-end h x q = q ∙ rw (le-ltb (s .control .cursor) (length rows / 5) h)
+  next-end h s = rw (le-ltb (c .cursor) (length rows / 5) h)
 
-  pub next-over : s .control .cursor < length rows / 5 → cfg .«s_max» ≤ s .control .step → record { outcome = Ran; state = truncates s; log = l } ≡ played l (nextRow cfg rows s)
-  unfolding nextRow pick played noted
-  next-over h k = rw (lt-ltb (s .control .cursor) (length rows / 5) h, le-leb (cfg .«s_max») (s .control .step) k)
+  module _ (h : c .cursor < length rows / 5) (at : Control) where
+    pub next-over : cfg .«s_max» ≤ c .step → at ≡ truncated c → (s : KernelState) → onwardTo (To at) (withControl s c) ≡ nextRow cfg rows (withControl s c)
+    unfolding nextRow pick
+    next-over k e s = rw (lt-ltb (c .cursor) (length rows / 5) h, le-leb (cfg .«s_max») (c .step) k, e)
 
-  pub next-on : s .control .cursor < length rows / 5 → s .control .step < cfg .«s_max» → record { outcome = Ran; state = toNextRow s; log = l } ≡ played l (nextRow cfg rows s)
-  unfolding nextRow pick played noted
-  next-on h k = rw (lt-ltb (s .control .cursor) (length rows / 5) h, lt-leb (cfg .«s_max») (s .control .step) k)
+    pub next-on : c .step < cfg .«s_max» → at ≡ toRow c (c .cursor + 1) → (s : KernelState) → onwardTo (To at) (withControl s c) ≡ nextRow cfg rows (withControl s c)
+    unfolding nextRow pick
+    next-on k e s = rw (lt-ltb (c .cursor) (length rows / 5) h, lt-leb (cfg .«s_max») (c .step) k, e)
+
+-- ---- run_phases: steps that never run on
+abbrev Stays : rules.Run → Type 0
+Stays r = r .outcome ≡ rules.ran → ⊥
+
+left-stays : rules.left ≡ rules.ran → ⊥
+left-stays e = let z : _≡_ {A = ℕ} 0 1 = cc in absurd (omega arith)
+
+halt-stays : {h : HaltReason} → rules.halt h ≡ rules.ran → ⊥
+halt-stays e = let z : _≡_ {A = ℕ} 0 1 = cc in absurd (omega arith)
+
+ended-stays : {ms : List VenueMsg} → rules.ended ms ≡ rules.ran → ⊥
+ended-stays e = let z : _≡_ {A = ℕ} 0 1 = cc in absurd (omega arith)
+
+not-ran : (o : rules.Outcome) → (o ≡ rules.ran → ⊥) → Stopped (told o)
+not-ran rules.ran h = absurd (h refl)
+not-ran rules.left h = inl refl
+not-ran (rules.halt r) h = inr (inl refl)
+not-ran (rules.ended ms) h = inr (inr refl)
+
+-- end of data ends the run, or halts
+close-stays : (s : KernelState) → Stays (closeData s)
+unfolding closeData
+close-stays s = word-case Stays _ _ _ (λ m _. word-case Stays _ _ _ (λ n _. ended-stays) (λ _. halt-stays)) (λ _. halt-stays)
+
+then-stays : (r : rules.Run) (k : KernelState → rules.Run) → ((s : KernelState) → Stays (k s)) → Stays (rules.andThen r k)
+unfolding rules.andThen
+then-stays r k h = go (r .outcome)
+  where
+    go : (o : rules.Outcome) → Stays (rules.onRan o (record { outcome = o; state = r .state; events = r .events }) (rules.after (r .events) (k (r .state))))
+    go rules.ran = h (r .state)
+    go rules.left = left-stays
+    go (rules.halt x) = halt-stays
+    go (rules.ended ms) = ended-stays
+
+pub end-stops : (l : Log) (s : KernelState) (a : Step) (w : List ℕ) → seen a w ≡ played l (endOfData s) → Stopped (a .outcome)
+unfolding played endOfData
+end-stops l s a w e = subst Stopped (sym (ap (λ (x : Seen). x .outcome) e)) (not-ran (endOfData s .outcome) (then-stays _ closeData close-stays))
+
+-- an observation that is next is there, so that it leaves the walk
+pop-stays : (cfg : Config) (until : ℕ) (s : KernelState) (t : ℕ) → eventTurn cfg until s ≡ rules.again (popObservation cfg (clockTo t s)) → Stays (popObservation cfg (clockTo t s))
+unfolding popObservation rules.taking weight
+pop-stays cfg until s t e = some-case (λ (r : rules.Run). popObservation cfg (clockTo t s) ≡ r → Stays r) (popped 16 blankObs (observedRow (s .observed)) .got) _ (rules.ranTo (clockTo t s))
+    (λ o _ _. pick-case Stays _ _ _ (λ _. left-stays) (λ _. left-stays))
+    (λ _ q _. let z : weight (clockTo t s) < weight s = subst (λ (r : rules.Run). weight (r .state) < weight s) q (event-falls cfg until s (popObservation cfg (clockTo t s)) e (ap (λ (r : rules.Run). r .outcome) q)) in absurd (omega (arith, z)))
+    refl
+
+pub obs-stops : (cfg : Config) (until : ℕ) (s : KernelState) (x : Next) → nextTold x ≡ nextOf until s → (k : Class) (t : ℕ) → x ≡ At k t → k ≡ Observation
+    → (now : ℕ) → now ≡ max t (s .clock .«now_ns») → (l : Log) (a : Step) (w : List ℕ) → seen a w ≡ played l (popObservation cfg (clockAt now s)) → Stopped (a .outcome)
+unfolding played eventTurn
+obs-stops cfg until s x e k t h j now m l a w g = subst Stopped (sym left-is) (not-ran _ (pop-stays cfg until s t (rw (← e, h, j))))
+  where
+    left-is : a .outcome ≡ told (popObservation cfg (clockTo t s) .outcome)
+    left-is = rw (← m) (ap (λ (y : Seen). y .outcome) g)
+
+-- ---- run_phases: a step that ran, and one in whose place nothing was done. The variables are equal to what it left, where they meet
+pub goes-ran : (l : Log) (r : rules.Run) (a : Step) (v : List ℕ) → seen a v ≡ played l r → a .outcome ≡ Ran
+    → {w1 : List ℕ} {s1 : KernelState} {n1 : ℕ} → w1 ≡ v → s1 ≡ a .state → n1 ≡ a .raised → Goes l r s1 (logAt w1 n1)
+goes-ran l r a v e h p q m k = rw (p, q, m) (sym (then-ran l r k a v e h))
+
+pub goes-none : (w : List ℕ) (n : ℕ) (r : rules.Run) (s : KernelState) → r ≡ rules.ranTo s
+    → {w1 : List ℕ} {s1 : KernelState} {n1 : ℕ} → w1 ≡ w → s1 ≡ s → n1 ≡ n → Goes (logAt w n) r s1 (logAt w1 n1)
+unfolding rules.andThen
+goes-none w n r s e p q m k = rw (p, q, m, e)
+
+-- ---- run_phases: the walk
+pub walk-none : (cfg : Config) (until : ℕ) (s : KernelState) (x : Next) → nextTold x ≡ nextOf until s → x ≡ Nothing → runEvents cfg until s ≡ rules.ranTo s
+unfolding eventTurn
+walk-none cfg until s x e h = walk-last cfg until s (rules.ranTo s) (rw (← e, h))
+
+-- it stopped: what it left is all of the turn
+pub walk-left : (cfg : Config) (rows : List ℕ) (i : ℕ) (row : KernelTick) (s : KernelState) (l : Log) (a : Step) (w : List ℕ) → seen a w ≡ played l (runEvents cfg (row .«ts_ns») s)
+    → Stopped (a .outcome) → (x : Work) → seen a w ≡ played l (worked x cfg rows i row s)
+unfolding matchPhase settleRow
+walk-left cfg rows i row s l a w e m Match = then-stop l (runEvents cfg (row .«ts_ns») s) _ a w e m
+walk-left cfg rows i row s l a w e m Settle = then-stop l (settleRow cfg i row s) (nextRow cfg rows) a w (then-stop l (runEvents cfg (row .«ts_ns») s) _ a w e m) m
+
+-- ---- run_phases: the next row
+module _ (l : Log) (cfg : Config) (rows : List ℕ) (s : KernelState) (r : Onward) (e : onwardTo r s ≡ nextRow cfg rows s) where
+  pub onward-end : r ≡ End → {x : Seen} → x ≡ played l (endOfData s) → x ≡ played l (nextRow cfg rows s)
+  onward-end h p = p ∙ ap (played l) (ap (λ (o : Onward). onwardTo o s) (sym h) ∙ e)
+
+  pub onward-to : (at : Control) → r ≡ To at → record { outcome = Ran; state = withControl s at; log = l } ≡ played l (nextRow cfg rows s)
+  onward-to at h = played-ran l (withControl s at) ∙ ap (played l) (ap (λ (o : Onward). onwardTo o s) (sym h) ∙ e)
+
+-- ---- run_phases: the row's end, after its walk
+module _ (l : Log) (cfg : Config) (rows : List ℕ) (i : ℕ) (row : KernelTick) (s : KernelState) (w : List ℕ) (n : ℕ) (t : KernelState) (walked : Goes l (runEvents cfg (row .«ts_ns») s) t (logAt w n))
+    (sum : MaybeU64) (f : sum ≡ fitting (row .bid + row .ask)) where
+  abbrev ends : KernelState → rules.Run
+  ends u = pick (fits (row .bid + row .ask)) (rules.raised (RowEnd i (row .«ts_ns»)) u) (rules.haltAt LedgerOverflow u)
+
+  pub settle-past : sum ≡ None → seen (record { outcome = Halt LedgerOverflow; state = t; raised = n }) w ≡ played l (worked Settle cfg rows i row s)
+  unfolding settleRow pick played noted
+  settle-past g = then-stop l (settleRow cfg i row s) (nextRow cfg rows) (record { outcome = Halt LedgerOverflow; state = t; raised = n }) w (rw (fits-none (row .bid + row .ask) (sym f ∙ g)) at (walked ends)) (inr (inl refl))
+
+  -- it is told: then the next row
+  pub settle-is : (m : ℕ) → sum ≡ Some m → (v : List ℕ) (k : ℕ) → logAt v k ≡ note (logAt w n) (RowEnd i (row .«ts_ns»)) → played (logAt v k) (nextRow cfg rows t) ≡ played l (worked Settle cfg rows i row s)
+  unfolding settleRow pick played noted
+  settle-is m g v k q = sym (then-ran l (settleRow cfg i row s) (nextRow cfg rows) (record { outcome = Ran; state = t; raised = k }) v (rw (fits-some (row .bid + row .ask) m (sym f ∙ g), ← q) at (walked ends)) refl)
+
+-- ---- run_phases: the match, after its walk
+module _ (l : Log) (cfg : Config) (i : ℕ) (row : KernelTick) (s : KernelState) (w : List ℕ) (n : ℕ) (t : KernelState) (walked : Goes l (runEvents cfg (row .«ts_ns») s) t (logAt w n))
+    (now : ℕ) (now-is : now ≡ max (row .«ts_ns») (t .clock .«now_ns»)) (sum : MaybeU64) (f : sum ≡ fitting (row .bid + row .ask)) where
+  abbrev rest : KernelState → rules.Run
+  rest u = rules.andThen (matchRow cfg row (clockTo (row .«ts_ns») u)) (queueObservation cfg i row)
+
+  pub match-past : sum ≡ None → seen (record { outcome = Halt LedgerOverflow; state = clockAt now t; raised = n }) w ≡ played l (matchPhase cfg i row s)
+  unfolding matchPhase
+  match-past g = halts ∙ walked rest
+    where
+      halts : seen (record { outcome = Halt LedgerOverflow; state = clockAt now t; raised = n }) w ≡ played (logAt w n) (rest t)
+      halts = unfold matchRow onWord rules.andThen played noted in rw (← now-is, ← f, g)
+
+  module _ (mid2 : ℕ) (h : sum ≡ Some mid2) (gate : GateState) (eg : gate ≡ marked mid2 (t .gate)) where
+    row-is : matchRow cfg row (clockTo (row .«ts_ns») t) ≡ booked cfg row (marking t now gate)
+    unfolding matchRow onWord
+    row-is = rw (← now-is, ← f, h, ← eg)
+
+    -- the booked orders, then the observation
+    pub match-is : played (logAt w n) (rules.andThen (booked cfg row (marking t now gate)) (queueObservation cfg i row)) ≡ played l (matchPhase cfg i row s)
+    unfolding matchPhase
+    match-is = ap (λ (r : rules.Run). played (logAt w n) (rules.andThen r (queueObservation cfg i row))) (sym row-is) ∙ walked rest
+
+-- a is what the match pass left, and b what the sweep left
+pub swept-is : (l : Log) (cfg : Config) (row : KernelTick) (u : KernelState) (a : Matched) (v : List ℕ) → seen (matchedIn u a) v ≡ played l (matchFrom cfg row (u .orders .count) 0 u) → a .outcome ≡ Ran
+    → (b : Swept) → ((x : KernelState) (n : ℕ) (y : List ℕ) → seen (sweptIn x n b) y ≡ played (logAt y n) (sweepFrom (a .orders .count) 0 (withSwept x (a .orders) (u .msgs) (u .awaiting))))
+    → seen (sweptIn (matchedIn u a .state) (a .raised) b) v ≡ played l (booked cfg row u)
+unfolding sweep
+swept-is l cfg row u a v e h b g = then-on l (matchFrom cfg row (u .orders .count) 0 u) sweep (matchedIn u a) v e h (g (matchedIn u a .state) (a .raised) v)
 
 -- ---- a turn of the phases
-pub turn-before : (cfg : Config) (rows : List ℕ) (s : KernelState) → s .control .phase ≡ BeforeMatch → phaseTurn cfg rows s ≡ rules.again (beforeMatch cfg rows s)
-unfolding phaseTurn
-turn-before cfg rows s h = rw h
+pub turn-of : (cfg : Config) (rows : List ℕ) (s : KernelState) (x : Job) → turnBy x cfg rows s ≡ phaseTurn cfg rows s → {y : Job} → x ≡ y → phaseTurn cfg rows s ≡ turnBy y cfg rows s
+turn-of cfg rows s x e h = sym e ∙ ap (λ (j : Job). turnBy j cfg rows s) h
 
-pub turn-queued : (cfg : Config) (rows : List ℕ) (s : KernelState) → s .control .phase ≡ ObsQueued → phaseTurn cfg rows s ≡ rules.again (obsQueued cfg rows s)
-unfolding phaseTurn
-turn-queued cfg rows s h = rw h
+-- the work in a row's job
+pub work-of : {x : Job} {i : ℕ} {row : KernelTick} {v : Work} → x ≡ Row v i row → {y : Work} → v ≡ y → x ≡ Row y i row
+work-of {i = i} {row = row} h g = h ∙ ap (λ (z : Work). Row z i row) g
 
-pub phases-paused : (l : Log) (cfg : Config) (rows : List ℕ) (s : KernelState) → s .control .phase ≡ AwaitDecision → record { outcome = Ran; state = s; log = l } ≡ played l (phases cfg rows s)
-phases-paused l cfg rows s h = played-ran l s ∙ ap (played l) (sym (phases-last cfg rows s (rules.ranTo s) (unfold phaseTurn in rw h)))
+pub phases-stop : (l : Log) (cfg : Config) (rows : List ℕ) (s : KernelState) → phaseTurn cfg rows s ≡ rules.last (rules.ranTo s) → record { outcome = Ran; state = s; log = l } ≡ played l (phases cfg rows s)
+phases-stop l cfg rows s t = played-ran l s ∙ ap (played l) (sym (phases-last cfg rows s (rules.ranTo s) t))
 
-pub phases-over : (l : Log) (cfg : Config) (rows : List ℕ) (s : KernelState) → s .control .phase ≡ Terminal → record { outcome = Ran; state = s; log = l } ≡ played l (phases cfg rows s)
-phases-over l cfg rows s h = played-ran l s ∙ ap (played l) (sym (phases-last cfg rows s (rules.ranTo s) (unfold phaseTurn in rw h)))
+module _ (cfg : Config) (rows : List ℕ) (s : KernelState) (r : rules.Run) (t : phaseTurn cfg rows s ≡ rules.again r) (l : Log)
+    {o : Outcome} {u : KernelState} {m : Log} (e : record { outcome = o; state = u; log = m } ≡ played l r) where
+  abbrev left-by : Step
+  left-by = record { outcome = o; state = u; raised = m .count }
 
-module _ (cfg : Config) (rows : List ℕ) (s : KernelState) (r : rules.Run) (t : phaseTurn cfg rows s ≡ rules.again r) (l : Log) (a : Step) (w : List ℕ) (e : seen a w ≡ played l r) where
-  pub phases-left : Stopped (a .outcome) → seen a w ≡ played l (phases cfg rows s)
-  phases-left m = then-stop l r (phases cfg rows) a w e m ∙ ap (played l) (sym (phases-again cfg rows s r t))
+  pub phases-left : Stopped o → record { outcome = o; state = u; log = m } ≡ played l (phases cfg rows s)
+  phases-left h = then-stop l r (phases cfg rows) left-by (m .words) e h ∙ ap (played l) (sym (phases-again cfg rows s r t))
 
-  pub phases-on : a .outcome ≡ Ran → played (logAt w (a .raised)) (phases cfg rows (a .state)) ≡ played l (phases cfg rows s)
-  phases-on h = sym (ap (played l) (phases-again cfg rows s r t) ∙ then-ran l r (phases cfg rows) a w e h)
+  pub phases-on : o ≡ Ran → played m (phases cfg rows u) ≡ played l (phases cfg rows s)
+  phases-on h = sym (ap (played l) (phases-again cfg rows s r t) ∙ then-ran l r (phases cfg rows) left-by (m .words) e h)
 
-  pub phases-fall : a .outcome ≡ Ran → turns rows (a .state) < turns rows s
-  phases-fall h = subst (λ (x : KernelState). turns rows x < turns rows s) (sym (state-is l r a w e)) (phase-falls cfg rows s r t (ran-too l r a w e h))
+  pub phases-fall : o ≡ Ran → turns rows u < turns rows s
+  phases-fall h = subst (λ (x : KernelState). turns rows x < turns rows s) (sym (state-is l r left-by (m .words) e)) (phase-falls cfg rows s r t (ran-too l r left-by (m .words) e h))

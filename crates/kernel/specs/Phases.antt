@@ -1,18 +1,31 @@
--- A row as the rules say it, and the parts of the state that queueing an observation changes.
+-- A row as the rules say it, what a turn of the phases has to do, and the parts of the state that queueing an observation changes.
 use Prim.Native.Nat.{ℕ}
+use mathlib.Core.List.{List}
 use mathlib.Core.Option.{Option, none, some}
 use Rattle.numbers.specs.declared.MaybeU64.the-variants as u64
+use Rattle.lists.specs.Lists.{onSome}
 use Rattle.book.specs.With.{withControl, withClock, withRngLatency, withObserved, controlPhase, controlCursor, controlCurRow}
+use Rattle.book.specs.declared.config.Config.{Config}
 use Rattle.book.specs.declared.config.KernelTick.{KernelTick}
 use Rattle.book.specs.declared.config.MaybeTick.{MaybeTick}
 use Rattle.book.specs.declared.config.MaybeTick.the-variants as tick
 use Rattle.book.specs.declared.observed.Observed.{Observed}
 use Rattle.book.specs.declared.state.Clock.{Clock}
 use Rattle.book.specs.declared.state.Control.{Control}
+use Rattle.book.specs.declared.state.HaltReason.the-variants.{CounterOverflow}
 use Rattle.book.specs.declared.state.KernelState.{KernelState}
 use Rattle.book.specs.declared.state.Phase.the-variants as phase
+use Rattle.rules.specs.Run.{Run, ranTo, haltAt, andThen, Turn, again, last}
+use Rattle.rules.specs.Delivery.{endOfData}
+use Rattle.rules.specs.Phases.{matchPhase, settleRow, nextRow}
 use Rattle.reports.specs.declared.Step.{Step}
+use Rattle.kernel.specs.declared.phases.Job.{Job}
+use Rattle.kernel.specs.declared.phases.Job.the-variants as job
 use Rattle.kernel.specs.declared.phases.ObsStep.{ObsStep}
+use Rattle.kernel.specs.declared.phases.Onward.{Onward}
+use Rattle.kernel.specs.declared.phases.Onward.the-variants as onward
+use Rattle.kernel.specs.declared.phases.Work.{Work}
+use Rattle.kernel.specs.declared.phases.Work.the-variants as work
 
 abbrev pub tickTold : MaybeTick → Option KernelTick
 tickTold tick.None = none
@@ -26,3 +39,24 @@ withObs s g c o k = withControl (withObserved (withClock (withRngLatency s g) c)
 
 abbrev pub obsIn : KernelState → ℕ → ObsStep → Step
 obsIn s n q = record { outcome = q .outcome; state = withObs s (q .«rng_latency») (q .clock) (q .observed) (q .control); raised = n }
+
+-- the work on the row of a number, if there is that row
+abbrev pub workOn : Work → ℕ → Option KernelTick → Job
+workOn w i row = onSome row (job.Row w i) job.Fail
+
+-- the work on a row
+abbrev pub worked : Work → Config → List ℕ → ℕ → KernelTick → KernelState → Run
+worked work.Match c rows i row s = matchPhase c i row s
+worked work.Settle c rows i row s = andThen (settleRow c i row s) (nextRow c rows)
+
+-- what a job does
+abbrev pub turnBy : Job → Config → List ℕ → KernelState → Turn
+turnBy job.Stop c rows s = last (ranTo s)
+turnBy job.Fail c rows s = again (haltAt CounterOverflow s)
+turnBy job.First c rows s = again (nextRow c rows s)
+turnBy (job.Row w i row) c rows s = again (worked w c rows i row s)
+
+-- where the next row leads
+abbrev pub onwardTo : Onward → KernelState → Run
+onwardTo onward.End s = endOfData s
+onwardTo (onward.To c) s = ranTo (withControl s c)

@@ -12,7 +12,7 @@ use book::state::KernelEvent;
 use book::state::KernelState;
 use book::state::Phase;
 use book::state::Status;
-use delivery::deliver_next;
+use delivery::hand;
 use messages::apply_next_msg;
 use numbers::MaybeU64;
 use numbers::words::max;
@@ -82,7 +82,7 @@ fn pause(c: Control) -> Control
 }
 
 // The first observation pauses the run, or truncates it.
-fn pop_observation(
+pub fn pop_observation(
     log: &mut [u64],
     raised: u64,
     cfg: Config,
@@ -233,13 +233,20 @@ pub fn run_events(log: &mut [u64], raised: u64, cfg: Config, until: u64, state: 
                 };
             }
             Class::Delivery => {
+                let due = s.deliveries;
+                let taken = due.pop_front();
+                let got = taken.got;
+                // One that is next is in the list, so the walk never ends here.
+                let MaybeDelivery::Some(delivery) = got else {
+                    break Outcome::Ran;
+                };
+                let rest = taken.list;
+                s.deliveries = rest;
                 let agent = s.agent;
                 let account = s.account;
-                let h = deliver_next(log, n, deliveries, agent, account);
-                let rest = h.deliveries;
+                let h = hand(log, n, delivery, agent, account);
                 let moved = h.agent;
                 let told = h.account;
-                s.deliveries = rest;
                 s.agent = moved;
                 s.account = told;
                 n = h.raised;

@@ -16,9 +16,11 @@ use phases::run_phases;
 use reports::Outcome;
 use reports::log::emit;
 ghost use mathlib.Core.Path.{_≡_};
+ghost use Rattle.book.specs.With.{withControl};
+ghost use Rattle.book.specs.declared.state.KernelState.{KernelState};
 ghost use Rattle.rules.specs.Log.{written};
 ghost use Rattle.rules.specs.Calls.{advance, pass, halted, countsFit, isPaused, canResume};
-ghost use Rattle.kernel.specs.Told.{advanceTold, passTold};
+ghost use Rattle.kernel.specs.Told.{advanceTold, passTold, passedIn};
 
 // Whether a call ran, or why it was refused.
 pub enum Answer {
@@ -143,36 +145,41 @@ fn can_resume(phase: Phase) -> bool
     }
 }
 
-// No action at a pause.
-pub fn pass(state: KernelState) -> Passed
-    ensures { λ r. ⌜ r ≡ passTold (pass state) ⌝ }
+// Whether a pass may go on, and the control that it leads to.
+pub struct PassTo {
+    pub answer: Answer,
+    pub control: Control,
+}
+
+// A pass changes nothing but the control, so that the state is copied once.
+fn pass_control(fits: bool, c: Control) -> PassTo
+    ensures { λ r. ⌜ ((s : KernelState) → fits ≡ countsFit s → passedIn s r ≡ passTold (pass (withControl s c))) ⌝ }
 {
-    if !counts_fit(state) {
-        return Passed {
+    if !fits {
+        return PassTo {
             answer: Answer::Refused(Refusal::ListCount),
-            state,
+            control: c,
         };
     }
-    let c = state.control;
     let phase = c.phase;
     if !is_paused(phase) {
-        return Passed {
+        return PassTo {
             answer: Answer::Refused(Refusal::NotPaused),
-            state,
+            control: c,
         };
     }
     let resume = c.resume;
     if !can_resume(resume) {
-        return Passed {
+        return PassTo {
             answer: Answer::Refused(Refusal::NoResume),
-            state,
+            control: c,
         };
     }
     let next = checked_add(c.step, 1);
     let MaybeU64::Some(step) = next else {
-        return Passed {
+        return PassTo {
             answer: Answer::Refused(Refusal::StepLimit),
-            state,
+            control: c,
         };
     };
     let cur_row = c.cur_row;
@@ -185,10 +192,22 @@ pub fn pass(state: KernelState) -> Passed
         step,
         status,
     };
+    PassTo {
+        answer: Answer::Ran,
+        control,
+    }
+}
+
+// No action at a pause.
+pub fn pass(state: KernelState) -> Passed
+    ensures { λ r. ⌜ r ≡ passTold (pass state) ⌝ }
+{
+    let fits = counts_fit(state);
+    let c = state.control;
+    let to = pass_control(fits, c);
+    let answer = to.answer;
+    let control = to.control;
     let mut s = state;
     s.control = control;
-    Passed {
-        answer: Answer::Ran,
-        state: s,
-    }
+    Passed { answer, state: s }
 }

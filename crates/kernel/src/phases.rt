@@ -1,6 +1,8 @@
 // The phases of a row.
+use super::events::Class;
 use super::events::Next;
 use super::events::next_of;
+use super::events::pop_observation;
 use super::events::run_events;
 use super::events::truncate;
 use book::ObsEntry;
@@ -15,7 +17,11 @@ use book::state::KernelEvent;
 use book::state::KernelState;
 use book::state::Phase;
 use delivery::end_of_data;
-use matching::match_row;
+use matching::Venue;
+use matching::busy;
+use matching::mark;
+use matching::match_orders;
+use matching::sweep;
 use models::latency::delayed;
 use numbers::MaybeU64;
 use numbers::words::checked_add;
@@ -26,13 +32,12 @@ use reports::log::emit;
 ghost use mathlib.Core.Path.{_≡_};
 ghost use mathlib.Core.List.{List};
 ghost use Prim.Native.Nat.{ℕ};
-ghost use Rattle.book.specs.With.{controlPhase};
+ghost use Rattle.book.specs.With.{controlPhase, withControl};
 ghost use Rattle.book.specs.declared.state.KernelState.{KernelState};
-ghost use Rattle.book.specs.declared.state.Phase.the-variants.{ObsQueued};
-ghost use Rattle.rules.specs.Events.{runEvents};
-ghost use Rattle.rules.specs.Phases.{rowAt, queueObservation, matchPhase, beforeMatch, settleRow, settle, nextRow, obsQueued, phases};
+ghost use Rattle.book.specs.declared.config.Config.{Config};
+ghost use Rattle.rules.specs.Phases.{rowAt, queueObservation, nextRow, phaseTurn, phases};
 ghost use Rattle.reports.specs.Log.{logAt, played, seen};
-ghost use Rattle.kernel.specs.Phases.{tickTold, obsIn, withObs, toRow};
+ghost use Rattle.kernel.specs.Phases.{tickTold, obsIn, withObs, toRow, workOn, turnBy, onwardTo};
 
 // What queueing an observation changes of the state.
 pub struct ObsStep {
@@ -129,153 +134,6 @@ fn queue_observation(
     }
 }
 
-// The walk up to a time, which is skipped where nothing is due.
-fn walk_to(log: &mut [u64], raised: u64, cfg: Config, until: u64, s: KernelState) -> Step
-    ensures { λ r. ⌜ seen r (now (log .exit)) ≡ played (logAt (now (log .entry)) raised) (runEvents cfg until s) ⌝ }
-{
-    let msgs = s.msgs;
-    let deliveries = s.deliveries;
-    let observed = s.observed;
-    let next = next_of(until, msgs, deliveries, observed);
-    let Next::At(_, _) = next else {
-        return Step {
-            outcome: Outcome::Ran,
-            state: s,
-            raised,
-        };
-    };
-    run_events(log, raised, cfg, until, s)
-}
-
-fn match_phase(
-    log: &mut [u64],
-    raised: u64,
-    cfg: Config,
-    index: u64,
-    row: KernelTick,
-    s: KernelState,
-) -> Step
-    ensures { λ r. ⌜ seen r (now (log .exit)) ≡ played (logAt (now (log .entry)) raised) (matchPhase cfg index row s) ⌝ }
-{
-    let a = walk_to(log, raised, cfg, row.ts_ns, s);
-    let o = a.outcome;
-    let Outcome::Ran = o else {
-        return a;
-    };
-    let mut t = a.state;
-    let now = max(row.ts_ns, t.clock.now_ns);
-    t.clock.now_ns = now;
-    let b = match_row(log, a.raised, cfg, row, t);
-    let p = b.outcome;
-    let Outcome::Ran = p else {
-        return b;
-    };
-    let mut u = b.state;
-    let clock = u.clock;
-    let observed = u.observed;
-    let control = u.control;
-    let q = queue_observation(cfg, index, row, u.rng_latency, clock, observed, control);
-    let clock2 = q.clock;
-    let observed2 = q.observed;
-    let control2 = q.control;
-    let e = q.outcome;
-    u.rng_latency = q.rng_latency;
-    u.clock = clock2;
-    u.observed = observed2;
-    u.control = control2;
-    Step {
-        outcome: e,
-        state: u,
-        raised: b.raised,
-    }
-}
-
-fn before_match(log: &mut [u64], raised: u64, cfg: Config, rows: &[u64], s: KernelState) -> Step
-    ensures { λ r. ⌜ seen r (now (log .exit)) ≡ played (logAt (now (log .entry)) raised) (beforeMatch cfg (now (rows .entry)) s) ⌝ }
-{
-    let c = s.control;
-    let cur_row = c.cur_row;
-    let MaybeU64::Some(index) = cur_row else {
-        return Step {
-            outcome: Outcome::Halt(HaltReason::CounterOverflow),
-            state: s,
-            raised,
-        };
-    };
-    let tick = row_at(rows, index);
-    let MaybeTick::Some(row) = tick else {
-        return Step {
-            outcome: Outcome::Halt(HaltReason::CounterOverflow),
-            state: s,
-            raised,
-        };
-    };
-    match_phase(log, raised, cfg, index, row, s)
-}
-
-// The row's second walk, then its end.
-fn settle_row(
-    log: &mut [u64],
-    raised: u64,
-    cfg: Config,
-    index: u64,
-    row: KernelTick,
-    s: KernelState,
-) -> Step
-    ensures { λ r. ⌜ seen r (now (log .exit)) ≡ played (logAt (now (log .entry)) raised) (settleRow cfg index row s) ⌝ }
-{
-    let a = walk_to(log, raised, cfg, row.ts_ns, s);
-    let o = a.outcome;
-    let Outcome::Ran = o else {
-        return a;
-    };
-    let t = a.state;
-    let sum = checked_add(row.bid, row.ask);
-    let MaybeU64::Some(_) = sum else {
-        return Step {
-            outcome: Outcome::Halt(HaltReason::LedgerOverflow),
-            state: t,
-            raised: a.raised,
-        };
-    };
-    let n = emit(
-        log,
-        a.raised,
-        KernelEvent::RowEnd {
-            row: index,
-            ts_ns: row.ts_ns,
-        },
-    );
-    Step {
-        outcome: Outcome::Ran,
-        state: t,
-        raised: n,
-    }
-}
-
-fn settle(log: &mut [u64], raised: u64, cfg: Config, rows: &[u64], s: KernelState) -> Step
-    ensures { λ r. ⌜ seen r (now (log .exit)) ≡ played (logAt (now (log .entry)) raised) (settle cfg (now (rows .entry)) s) ⌝ }
-{
-    let c = s.control;
-    let cur_row = c.cur_row;
-    let MaybeU64::Some(index) = cur_row else {
-        return Step {
-            outcome: Outcome::Ran,
-            state: s,
-            raised,
-        };
-    };
-    let tick = row_at(rows, index);
-    let MaybeTick::Some(row) = tick else {
-        return Step {
-            outcome: Outcome::Halt(HaltReason::CounterOverflow),
-            state: s,
-            raised,
-        };
-    };
-    settle_row(log, raised, cfg, index, row, s)
-}
-
 // The cursor's row becomes the current one.
 fn to_row(c: Control, next: u64) -> Control
     ensures { λ r. ⌜ r ≡ toRow c next ⌝ }
@@ -292,47 +150,81 @@ fn to_row(c: Control, next: u64) -> Control
     }
 }
 
-fn next_row(log: &mut [u64], raised: u64, cfg: Config, rows: &[u64], s: KernelState) -> Step
-    ensures { λ r. ⌜ seen r (now (log .exit)) ≡ played (logAt (now (log .entry)) raised) (nextRow cfg (now (rows .entry)) s) ⌝ }
+// What is to be done with the current row.
+pub enum Work {
+    Match,
+    Settle,
+}
+
+// What a turn of the phases has to do: nothing, for the run waits or is over; to fail; to take the first row; or to work on the current one.
+pub enum Job {
+    Stop,
+    Fail,
+    First,
+    Row(Work, u64, KernelTick),
+}
+
+// The work on the row of a number, which fails where there is no such row.
+fn work_on(work: Work, rows: &[u64], index: u64) -> Job
+    ensures { λ r. ⌜ r ≡ workOn work index (rowAt (now (rows .entry)) index) ⌝ }
+{
+    let tick = row_at(rows, index);
+    let MaybeTick::Some(row) = tick else {
+        return Job::Fail;
+    };
+    Job::Row(work, index, row)
+}
+
+// What the control asks of a turn.
+fn job_of(control: Control, rows: &[u64]) -> Job
+    ensures { λ r. ⌜ ((cfg : Config) (s : KernelState) → turnBy r cfg (now (rows .entry)) (withControl s control) ≡ phaseTurn cfg (now (rows .entry)) (withControl s control)) ⌝ }
+{
+    let phase = control.phase;
+    let cur_row = control.cur_row;
+    match phase {
+        Phase::BeforeMatch => {
+            let MaybeU64::Some(index) = cur_row else {
+                return Job::Fail;
+            };
+            work_on(Work::Match, rows, index)
+        }
+        Phase::ObsQueued => {
+            let MaybeU64::Some(index) = cur_row else {
+                return Job::First;
+            };
+            work_on(Work::Settle, rows, index)
+        }
+        Phase::AwaitDecision => Job::Stop,
+        Phase::Terminal => Job::Stop,
+    }
+}
+
+// Where the next row leads: to the end of the data, or on, to it or to truncation.
+pub enum Onward {
+    End,
+    To(Control),
+}
+
+// The row at the cursor, if the run is not truncated before it.
+fn next_row(cfg: Config, rows: &[u64], c: Control) -> Onward
+    ensures { λ r. ⌜ ((s : KernelState) → onwardTo r (withControl s c) ≡ nextRow cfg (now (rows .entry)) (withControl s c)) ⌝ }
 {
     let count = rows.len() / 5;
-    let c = s.control;
     let cursor = c.cursor;
     if cursor >= count as u64 {
-        return end_of_data(log, raised, s);
+        return Onward::End;
     }
-    let mut t = s;
     if cfg.s_max <= c.step {
         let over = truncate(c);
-        t.control = over;
-        return Step {
-            outcome: Outcome::Ran,
-            state: t,
-            raised,
-        };
+        return Onward::To(over);
     }
     let next = cursor + 1;
     let at = to_row(c, next);
-    t.control = at;
-    Step {
-        outcome: Outcome::Ran,
-        state: t,
-        raised,
-    }
-}
-
-fn obs_queued(log: &mut [u64], raised: u64, cfg: Config, rows: &[u64], s: KernelState) -> Step
-    ensures { λ r. ⌜ seen r (now (log .exit)) ≡ played (logAt (now (log .entry)) raised) (obsQueued cfg (now (rows .entry)) s) ⌝ }
-{
-    let a = settle(log, raised, cfg, rows, s);
-    let o = a.outcome;
-    let Outcome::Ran = o else {
-        return a;
-    };
-    next_row(log, a.raised, cfg, rows, a.state)
+    Onward::To(at)
 }
 
 // The phases, until a pause, a halt or the end of the run leaves them.
+// The state stands in one local, and a step that runs on every row takes the parts that it changes. The walk takes the whole state, where a message or a delivery is due.
 pub fn run_phases(log: &mut [u64], cfg: Config, rows: &[u64], state: KernelState) -> Step
     ensures { λ r. ⌜ seen r (now (log .exit)) ≡ played (logAt (now (log .entry)) 0) (phases cfg (now (rows .entry)) state) ⌝ }
 {
@@ -340,31 +232,155 @@ pub fn run_phases(log: &mut [u64], cfg: Config, rows: &[u64], state: KernelState
     let mut n = 0;
     let outcome = 'phases: loop {
         let control = s.control;
-        let phase = control.phase;
-        match phase {
-            Phase::BeforeMatch => {
-                let a = before_match(log, n, cfg, rows, s);
-                s = a.state;
-                n = a.raised;
-                let o = a.outcome;
-                let Outcome::Ran = o else {
-                    break 'phases o;
-                };
-            }
-            Phase::ObsQueued => {
-                let a = obs_queued(log, n, cfg, rows, s);
-                s = a.state;
-                n = a.raised;
-                let o = a.outcome;
-                let Outcome::Ran = o else {
-                    break 'phases o;
-                };
-            }
-            Phase::AwaitDecision => {
+        let job = job_of(control, rows);
+        match job {
+            Job::Stop => {
                 break 'phases Outcome::Ran;
             }
-            Phase::Terminal => {
-                break 'phases Outcome::Ran;
+            Job::Fail => {
+                break 'phases Outcome::Halt(HaltReason::CounterOverflow);
+            }
+            Job::First => {
+                let onward = next_row(cfg, rows, control);
+                let Onward::To(at) = onward else {
+                    let a = end_of_data(log, n, s);
+                    s = a.state;
+                    n = a.raised;
+                    let o = a.outcome;
+                    break 'phases o;
+                };
+                s.control = at;
+            }
+            Job::Row(work, index, row) => {
+                // The walk up to the row's time: nothing is due on most rows.
+                let msgs = s.msgs;
+                let deliveries = s.deliveries;
+                let observed = s.observed;
+                let next = next_of(row.ts_ns, msgs, deliveries, observed);
+                if let Next::At(class, time) = next {
+                    // An observation that is next always leaves the walk.
+                    if let Class::Observation = class {
+                        let now = max(time, s.clock.now_ns);
+                        s.clock.now_ns = now;
+                        let agent = s.agent;
+                        let l = pop_observation(log, n, cfg, now, control, observed, agent);
+                        let at = l.control;
+                        let rest = l.observed;
+                        let told = l.agent;
+                        s.control = at;
+                        s.observed = rest;
+                        s.agent = told;
+                        n = l.raised;
+                        let o = l.outcome;
+                        break 'phases o;
+                    }
+                    let a = run_events(log, n, cfg, row.ts_ns, s);
+                    s = a.state;
+                    n = a.raised;
+                    let o = a.outcome;
+                    let Outcome::Ran = o else {
+                        break 'phases o;
+                    };
+                }
+                let sum = checked_add(row.bid, row.ask);
+                match work {
+                    Work::Settle => {
+                        let MaybeU64::Some(_) = sum else {
+                            break 'phases Outcome::Halt(HaltReason::LedgerOverflow);
+                        };
+                        n = emit(
+                            log,
+                            n,
+                            KernelEvent::RowEnd {
+                                row: index,
+                                ts_ns: row.ts_ns,
+                            },
+                        );
+                        let c = s.control;
+                        let onward = next_row(cfg, rows, c);
+                        let Onward::To(at) = onward else {
+                            let a = end_of_data(log, n, s);
+                            s = a.state;
+                            n = a.raised;
+                            let o = a.outcome;
+                            break 'phases o;
+                        };
+                        s.control = at;
+                    }
+                    Work::Match => {
+                        let now = max(row.ts_ns, s.clock.now_ns);
+                        s.clock.now_ns = now;
+                        let MaybeU64::Some(mid2) = sum else {
+                            break 'phases Outcome::Halt(HaltReason::LedgerOverflow);
+                        };
+                        let g = s.gate;
+                        let gate = mark(g, mid2);
+                        s.gate = gate;
+                        // The match pass and the sweep, where they have something to do.
+                        let orders = s.orders;
+                        if busy(row, orders) {
+                            let clock = s.clock;
+                            let seqs = s.seqs;
+                            let counters = s.counters;
+                            let due = s.deliveries;
+                            let venue = Venue {
+                                rng_latency: s.rng_latency,
+                                clock,
+                                seqs,
+                                gate,
+                                counters,
+                            };
+                            let a = match_orders(log, n, cfg, row, venue, orders, due);
+                            let v = a.venue;
+                            let clock2 = v.clock;
+                            let seqs2 = v.seqs;
+                            let gate2 = v.gate;
+                            let counters2 = v.counters;
+                            let orders2 = a.orders;
+                            let deliveries2 = a.deliveries;
+                            s.rng_latency = v.rng_latency;
+                            s.clock = clock2;
+                            s.seqs = seqs2;
+                            s.gate = gate2;
+                            s.counters = counters2;
+                            s.orders = orders2;
+                            s.deliveries = deliveries2;
+                            n = a.raised;
+                            let o = a.outcome;
+                            let Outcome::Ran = o else {
+                                break 'phases o;
+                            };
+                            let held = s.msgs;
+                            let awaiting = s.awaiting;
+                            let w = sweep(orders2, held, awaiting);
+                            let orders3 = w.orders;
+                            let msgs3 = w.msgs;
+                            let awaiting3 = w.awaiting;
+                            s.orders = orders3;
+                            s.msgs = msgs3;
+                            s.awaiting = awaiting3;
+                            let p = w.outcome;
+                            let Outcome::Ran = p else {
+                                break 'phases p;
+                            };
+                        }
+                        let clock = s.clock;
+                        let seen = s.observed;
+                        let c = s.control;
+                        let q = queue_observation(cfg, index, row, s.rng_latency, clock, seen, c);
+                        let clock4 = q.clock;
+                        let observed4 = q.observed;
+                        let control4 = q.control;
+                        s.rng_latency = q.rng_latency;
+                        s.clock = clock4;
+                        s.observed = observed4;
+                        s.control = control4;
+                        let o = q.outcome;
+                        let Outcome::Ran = o else {
+                            break 'phases o;
+                        };
+                    }
+                }
             }
         }
     };

@@ -1,1 +1,2 @@
 pub mod MatchingWays
+pub mod Idle

@@ -1,23 +1,24 @@
 -- Matching: one law for each way out of a function. Assumes nothing.
 use Prim.Native.Nat.{ℕ, suc, _+_, _*_, _≤_, _<_}
 use mathlib.Core.Bool.{Bool, true, false}
-use mathlib.Core.List.{List, [], _∷_}
+use mathlib.Core.List.{List}
+use mathlib.Core.Logic.{inl, inr}
 use mathlib.Core.Option.{Option, none, some}
 use mathlib.Core.Path.{_≡_, refl, sym, ap, _∙_, subst}
 use native.Mathlib.Omega.{arith}
-use types.Run.{OneOf}
-use denote.Enum.Declared.{tagOf}
 use lib.Dec.{eqb}
-use borrow.Author.Tests.{eq-eqb, ne-eqb}
+use lib.ListN.{length, set}
+use borrow.Author.Tests.{eq-eqb, ne-eqb, leb-true, ltb-true}
 use Rattle.numbers.specs.Choice.{pick}
-use Rattle.numbers.specs.Words.{fits, fitting, onWord}
+use Rattle.numbers.specs.Words.{fitting, onWord}
 use Rattle.numbers.specs.declared.MaybeU64.{MaybeU64}
 use Rattle.numbers.specs.declared.MaybeU64.the-variants as u64
-use Rattle.lists.specs.Lists.{onSome, entryAt, takeAt, storeAt, putBefore}
+use Rattle.lists.specs.Lists.{onSome, live, foundIn, entryAt, takeAt, storeAt, putBefore}
 use Rattle.lists.proofs.Cases.{pick-case, some-case}
+use Rattle.lists.proofs.Ways.{put-full, push-in, store-in}
 use Rattle.book.specs.Entries.{blankOrder, remaining, inState, isTerminal, idAbove}
-use Rattle.book.specs.Rows.{ordersRow, ordersPut, ordersTaken, orderIn}
-use Rattle.book.specs.With.{withOrders, withMsgs, withGate, withCounters, seqsStampSeq, seqsNextExecId, gateMark2, countersVenueFills}
+use Rattle.book.specs.Rows.{ordersRow, ordersOf, ordersPut, ordersTaken, orderIn, deliveriesRow}
+use Rattle.book.specs.With.{withOrders, withMsgs, withDeliveries, seqsStampSeq, seqsNextExecId, gateMark2, countersVenueFills}
 use Rattle.book.specs.declared.ExecKind.{ExecKind}
 use Rattle.book.specs.declared.ExecKind.the-variants as exec
 use Rattle.book.specs.declared.FillRec.{FillRec}
@@ -29,6 +30,7 @@ use Rattle.book.specs.declared.config.Config.{Config}
 use Rattle.book.specs.declared.config.FillMode.{FillMode}
 use Rattle.book.specs.declared.config.FillMode.the-variants.{Immediate, QueuePosition}
 use Rattle.book.specs.declared.config.KernelTick.{KernelTick}
+use Rattle.book.specs.declared.deliveries.Deliveries.{Deliveries}
 use Rattle.book.specs.declared.msgs.Msgs.{Msgs}
 use Rattle.book.specs.declared.orders.MaybeOrder.{MaybeOrder}
 use Rattle.book.specs.declared.orders.MaybeOrder.the-variants as found
@@ -36,30 +38,31 @@ use Rattle.book.specs.declared.orders.Orders.{Orders}
 use Rattle.book.specs.declared.orders.OrdersPut.{OrdersPut}
 use Rattle.book.specs.declared.orders.OrdersTaken.{OrdersTaken}
 use Rattle.book.specs.declared.state.GateState.{GateState}
+use Rattle.book.specs.declared.state.HaltReason.{HaltReason}
 use Rattle.book.specs.declared.state.HaltReason.the-variants.{LedgerOverflow, CounterOverflow}
 use Rattle.book.specs.declared.state.KernelEvent.the-variants.{Fill}
 use Rattle.book.specs.declared.state.KernelState.{KernelState}
-use Rattle.book.specs.declared.state.Seqs.{Seqs}
 use Rattle.models.specs.Told.{gateTold}
 use Rattle.models.specs.declared.gate.Gated.{Gated}
 use Rattle.models.specs.declared.gate.Gated.the-variants.{Fail, Kept}
 use Rattle.rules.specs.Run as rules
-use Rattle.rules.specs.Report.{stamp, queueDelivery}
+use Rattle.rules.specs.Report.{stamp, pushDelivery, queueDelivery}
 use Rattle.rules.specs.Messages.{removeExpiry, await, awaitMarked}
-use Rattle.rules.specs.Matching.{matches, queueFillLots, fillLots, gateFilled, filledBy, fillRecord, fillReport, fillTold, fillAt, matchOrder, matchAt, matchFrom, leave, terminalAt, sweepFrom, sweep, marked, matchRow}
+use Rattle.rules.specs.Matching.{matches, queueFillLots, fillLots, gateFilled, filledBy, fillRecord, fillReport, fillTold, fillAt, matchOrder, matchAt, matchFrom, leave, terminalAt, sweepFrom, marked}
 use Rattle.rules.proofs.HeldMatching.{lots-most}
-use Rattle.reports.specs.Log.{logAt, note, noted, played, seen}
-use Rattle.reports.specs.Report.{reportAt, queuedIn, withQueue}
-use Rattle.matching.specs.Matching.{stampedBy, withVenue, venueIn, fillKind, Fills, none-there, fills, fails, lotsTold, lotsAt, withSwept, sweptIn}
-use Rattle.reports.specs.declared.Outcome.{Outcome}
+use Rattle.reports.specs.Log.{logAt, note, noted, Seen, played, seen}
+use Rattle.reports.specs.Report.{reportAt, reported, withReport, reportedIn}
 use Rattle.reports.specs.declared.Outcome.the-variants.{Ran, Halt}
+use Rattle.reports.specs.declared.Step.{Step}
+use Rattle.reports.specs.declared.report.Reported.{Reported}
+use Rattle.reports.proofs.ReportWays.{push-of, queue-parts}
+use Rattle.reports.proofs.Then.{played-ran, Stopped, then-ran, then-stop, then-on, Parts, halt-parts, word-parts, some-parts, pick-parts, stamp-parts, fits-none, fits-some}
+use Rattle.matching.specs.Matching.{recordAt, fillCounted, fillEvent, withVenue, filledIn, fillKind, withMatched, matchedIn, stirs, busy, Fills, none-there, fills, fails, lotsTold, lotsAt, withSwept, sweptIn}
+use Rattle.matching.specs.declared.Filled.{Filled}
 use Rattle.matching.specs.declared.Lots.{Lots}
 use Rattle.matching.specs.declared.Lots.the-variants as lots
-use Rattle.matching.specs.declared.Matched.{Matched}
 use Rattle.matching.specs.declared.Swept.{Swept}
 use Rattle.matching.specs.declared.Venue.{Venue}
-use Rattle.reports.specs.declared.report.Queued.{Queued}
-use Rattle.reports.proofs.Then.{played-ran, raised-then, Stopped, then-ran, then-stop, fits-none, fits-some}
 
 -- ---- a fill: the order after it, and its kind
 module _ (o : VenueOrder) (n rest : ℕ) (e : rest ≡ remaining o) where
@@ -81,70 +84,78 @@ module _ (o : VenueOrder) (n rest : ℕ) (e : rest ≡ remaining o) where
   unfolding pick
   kind-some h = rw (ne-eqb n (remaining o) (λ k. h (k ∙ sym e)))
 
--- ---- a fill that is told
-module _ (w : List ℕ) (raised : ℕ) (cfg : Config) (i : ℕ) (o : VenueOrder) (n : ℕ) (before : Seqs) (v : Venue)
-    (count : MaybeU64) (e : count ≡ fitting (v .counters .«venue_fills» + 1)) where
-  pub told-full : count ≡ u64.None → (s : KernelState)
-      → seen (venueIn s (record { outcome = Halt CounterOverflow; venue = v; raised = raised })) w
-      ≡ played (logAt w raised) (fillTold cfg i o n (stampedBy before (withVenue s v)) (withVenue s v))
-  unfolding fillTold onWord played noted
-  told-full h s = rw (← e, h)
+-- ---- a fill up to its event
+-- what `stopped` gives
+abbrev HaltsAt : HaltReason → Venue → ℕ → Filled → Type 0
+HaltsAt h v raised r = (s : KernelState) (w : List ℕ) → seen (filledIn s r) w ≡ played (logAt w raised) (rules.haltAt h (withVenue s v))
 
-  abbrev record-of : FillRec
-  record-of = record { «ts_ns» = v .clock .«now_ns»; «exec_id» = before .«next_exec_id»; «order_id» = o .id; side = o .side; price = o .price; qty = n }
-
-  pub told-in : (k m : ℕ) (w1 w2 : List ℕ) (filled : VenueOrder) (put : OrdersPut) (kind : ExecKind) (report : ReportRec) (q : Queued)
-      → count ≡ u64.Some k
-      → logAt w1 m ≡ note (logAt w raised) (Fill record-of)
-      → filled ≡ filledBy n o
-      → ordersPut put ≡ storeAt 8 i filled (ordersRow (v .orders))
-      → kind ≡ fillKind n o
-      → report ≡ reportAt (v .clock .«now_ns») (before .«stamp_seq») filled kind (o .«cancel_inflight») n
-      → ((s : KernelState) → seen (queuedIn s q) w2 ≡ played (logAt w1 m) (queueDelivery cfg report (fill.Some record-of) (withQueue s (v .«rng_latency») (v .clock) (v .deliveries))))
-      → (s : KernelState)
-      → seen (venueIn s (record { outcome = q .outcome; venue = record { «rng_latency» = q .«rng_latency»; clock = q .clock; seqs = v .seqs; gate = v .gate; counters = countersVenueFills (v .counters) k; orders = put .list; deliveries = q .deliveries }; raised = q .raised })) w2
-      ≡ played (logAt w raised) (fillTold cfg i o n (stampedBy before (withVenue s v)) (withVenue s v))
-  unfolding fillTold onWord fillRecord fillReport
-  told-in k m w1 w2 filled put kind report q h em ef ep ek er eq s =
-      rw (← e, h, raised-then, ← em, ← ef, ← ep, ← ek, ← er) (eq (withOrders (withCounters (withVenue s v) (countersVenueFills (v .counters) k)) (put .list)))
-
--- ---- a fill from its stamp on
-module _ (w : List ℕ) (raised : ℕ) (cfg : Config) (i : ℕ) (o : VenueOrder) (n : ℕ) (v : Venue)
+module _ (w : List ℕ) (raised : ℕ) (o : VenueOrder) (n : ℕ) (v : Venue)
     (next : MaybeU64) (e : next ≡ fitting (v .seqs .«stamp_seq» + 1)) where
-  pub fill-unstamped : next ≡ u64.None → (s : KernelState)
-      → seen (venueIn s (record { outcome = Halt CounterOverflow; venue = v; raised = raised })) w ≡ played (logAt w raised) (fillAt cfg i o n (withVenue s v))
-  unfolding fillAt stamp onWord rules.andThen played noted
-  fill-unstamped h s = rw (← e, h)
+  pub fill-unstamped : next ≡ u64.None → {r : Filled} → HaltsAt CounterOverflow v raised r
+      → (s : KernelState) → seen (filledIn s r) w ≡ played (logAt w raised) (fillEvent o n (withVenue s v))
+  unfolding fillEvent stamp onWord rules.andThen
+  fill-unstamped h f s = rw (← e, h) (f s w)
 
   module _ (q : ℕ) (h : next ≡ u64.Some q) (gated : Gated) (eg : gateTold gated ≡ gateFilled (o .side) n (v .gate)) where
     abbrev stamped : Venue
-    stamped = record { «rng_latency» = v .«rng_latency»; clock = v .clock; seqs = seqsStampSeq (v .seqs) q; gate = v .gate; counters = v .counters; orders = v .orders; deliveries = v .deliveries }
+    stamped = record { «rng_latency» = v .«rng_latency»; clock = v .clock; seqs = seqsStampSeq (v .seqs) q; gate = v .gate; counters = v .counters }
 
-    pub fill-ungated : gated ≡ Fail → (s : KernelState)
-        → seen (venueIn s (record { outcome = Halt CounterOverflow; venue = stamped; raised = raised })) w ≡ played (logAt w raised) (fillAt cfg i o n (withVenue s v))
-    unfolding fillAt stamp onWord onSome rules.andThen played noted
-    fill-ungated g s = rw (← e, h, ← eg, g)
+    pub fill-ungated : gated ≡ Fail → {r : Filled} → HaltsAt CounterOverflow stamped raised r
+        → (s : KernelState) → seen (filledIn s r) w ≡ played (logAt w raised) (fillEvent o n (withVenue s v))
+    unfolding fillEvent stamp onWord onSome rules.andThen
+    fill-ungated g f s = rw (← e, h, ← eg, g) (f s w)
 
     module _ (kept : GateState) (g : gated ≡ Kept kept) (doubled : MaybeU64) (ed : doubled ≡ fitting (o .price * 2)) where
-      pub fill-priceless : doubled ≡ u64.None → (s : KernelState)
-          → seen (venueIn s (record { outcome = Halt LedgerOverflow; venue = stamped; raised = raised })) w ≡ played (logAt w raised) (fillAt cfg i o n (withVenue s v))
-      unfolding fillAt stamp onWord onSome pick rules.andThen played noted
-      fill-priceless d s = rw (← e, h, ← eg, g, fits-none (o .price * 2) (sym ed ∙ d))
+      pub fill-priceless : doubled ≡ u64.None → {r : Filled} → HaltsAt LedgerOverflow stamped raised r
+          → (s : KernelState) → seen (filledIn s r) w ≡ played (logAt w raised) (fillEvent o n (withVenue s v))
+      unfolding fillEvent stamp onWord onSome pick rules.andThen
+      fill-priceless d f s = rw (← e, h, ← eg, g, fits-none (o .price * 2) (sym ed ∙ d)) (f s w)
 
       module _ (x : ℕ) (d : doubled ≡ u64.Some x) (exec : MaybeU64) (ex : exec ≡ fitting (v .seqs .«next_exec_id» + 1)) where
-        pub fill-unnumbered : exec ≡ u64.None → (s : KernelState)
-            → seen (venueIn s (record { outcome = Halt CounterOverflow; venue = stamped; raised = raised })) w ≡ played (logAt w raised) (fillAt cfg i o n (withVenue s v))
-        unfolding fillAt stamp onWord onSome pick rules.andThen played noted
-        fill-unnumbered k s = rw (← e, h, ← eg, g, fits-some (o .price * 2) x (sym ed ∙ d), ← ex, k)
+        pub fill-unnumbered : exec ≡ u64.None → {r : Filled} → HaltsAt CounterOverflow stamped raised r
+            → (s : KernelState) → seen (filledIn s r) w ≡ played (logAt w raised) (fillEvent o n (withVenue s v))
+        unfolding fillEvent stamp onWord onSome pick rules.andThen
+        fill-unnumbered k f s = rw (← e, h, ← eg, g, fits-some (o .price * 2) x (sym ed ∙ d), ← ex, k) (f s w)
 
-        abbrev written : ℕ → Venue
-        written k = record { «rng_latency» = v .«rng_latency»; clock = v .clock; seqs = seqsNextExecId (seqsStampSeq (v .seqs) q) k; gate = kept; counters = v .counters; orders = v .orders; deliveries = v .deliveries }
+        module _ (k : ℕ) (j : exec ≡ u64.Some k) (count : MaybeU64) (ec : count ≡ fitting (v .counters .«venue_fills» + 1)) where
+          abbrev numbered : Venue
+          numbered = record { «rng_latency» = v .«rng_latency»; clock = v .clock; seqs = seqsNextExecId (seqsStampSeq (v .seqs) q) k; gate = kept; counters = v .counters }
 
-        pub fill-on : (k : ℕ) (w1 : List ℕ) (a : Matched) → exec ≡ u64.Some k
-            → ((s : KernelState) → seen (venueIn s a) w1 ≡ played (logAt w raised) (fillTold cfg i o n (stampedBy (v .seqs) (withVenue s (written k))) (withVenue s (written k))))
-            → (s : KernelState) → seen (venueIn s a) w1 ≡ played (logAt w raised) (fillAt cfg i o n (withVenue s v))
-        unfolding fillAt stamp onWord onSome pick rules.andThen fillTold fillRecord fillReport
-        fill-on k w1 a j told s = rw (← e, h, ← eg, g, fits-some (o .price * 2) x (sym ed ∙ d), ← ex, j) (told s)
+          pub fill-uncounted : count ≡ u64.None → {r : Filled} → HaltsAt CounterOverflow numbered raised r
+              → (s : KernelState) → seen (filledIn s r) w ≡ played (logAt w raised) (fillEvent o n (withVenue s v))
+          unfolding fillEvent fillCounted stamp onWord onSome pick rules.andThen
+          fill-uncounted m f s = rw (← e, h, ← eg, g, fits-some (o .price * 2) x (sym ed ∙ d), ← ex, j, ← ec, m) (f s w)
+
+          pub fill-told : (y m : ℕ) (w1 : List ℕ) (rec : FillRec) → count ≡ u64.Some y
+              → rec ≡ recordAt (v .clock .«now_ns») (v .seqs .«next_exec_id») o n
+              → logAt w1 m ≡ note (logAt w raised) (Fill rec)
+              → (s : KernelState)
+              → seen (filledIn s (record {
+                outcome = Ran;
+                venue = record { «rng_latency» = v .«rng_latency»; clock = v .clock; seqs = seqsNextExecId (seqsStampSeq (v .seqs) q) k; gate = kept; counters = countersVenueFills (v .counters) y };
+                raised = m;
+              })) w1
+              ≡ played (logAt w raised) (fillEvent o n (withVenue s v))
+          unfolding fillEvent fillCounted fillRecord stamp onWord onSome pick rules.andThen played noted
+          fill-told y m w1 rec c er em s = rw (← e, h, ← eg, g, fits-some (o .price * 2) x (sym ed ∙ d), ← ex, j, ← ec, c, ← er, ← em)
+
+-- ---- a fill is its event, then the order stored, its report and the delivery
+-- the state with the filled order stored
+abbrev stored : ℕ → VenueOrder → KernelState → KernelState
+stored i o u = withOrders u (ordersOf (storeAt 8 i o (ordersRow (u .orders)) .list))
+
+module _ (c : Config) (i : ℕ) (o : VenueOrder) (n : ℕ) (s : KernelState) where
+  -- s is the state at the stamp
+  abbrev telling : KernelState → rules.Run
+  telling u = queueDelivery c (fillReport s o n) (fill.Some (fillRecord s o n)) (stored i (filledBy n o) u)
+
+  counted-parts : (u : KernelState) → Parts telling (fillTold c i o n s u) (fillCounted o n s u)
+  unfolding fillTold fillCounted
+  counted-parts u = word-parts _ (λ k. unfold rules.andThen in record { is = refl }) (halt-parts _ _)
+
+  fill-parts : Parts telling (fillAt c i o n s) (fillEvent o n s)
+  unfolding fillAt fillEvent
+  fill-parts = stamp-parts s (λ t. some-parts _ (λ g. pick-parts _ (word-parts _ (λ e. counted-parts _) (halt-parts _ _)) (halt-parts _ _)) (halt-parts _ _))
 
 -- ---- what a row fills at a place
 module _ (mode : FillMode) (row : KernelTick) (os : Orders) (i : ℕ) (got : MaybeOrder) (e : orderIn got ≡ entryAt 8 blankOrder i (ordersRow os)) where
@@ -201,6 +212,33 @@ module _ (mode : FillMode) (row : KernelTick) (os : Orders) (i : ℕ) (r : Lots)
   unfolding Within
   take-within o n h = subst Within (sym e ∙ ap lotsTold h) (at-within mode row os i)
 
+-- what is filled is a live order
+There : Orders → ℕ → Fills → Type 0
+There os i none-there = Unit {0}
+There os i (fills o n) = (os .count ≤ 8) × (i < os .count)
+There os i fails = Unit {0}
+
+entry-there : (os : Orders) (i : ℕ) (o : VenueOrder) → entryAt 8 blankOrder i (ordersRow os) ≡ some o → (os .count ≤ 8) × (i < os .count)
+unfolding entryAt
+entry-there os i o =
+    let P : Option VenueOrder → Type 0 = λ x. x ≡ some o → (os .count ≤ 8) × (i < os .count) in
+    pick-case P _ _ _ (λ a. pick-case P _ _ _ (λ b _. (leb-true _ _ a, ltb-true _ _ b)) (λ _ e. let z : _≡_ {A = ℕ} 0 1 = cc in absurd (omega arith))) (λ _ e. let z : _≡_ {A = ℕ} 0 1 = cc in absurd (omega arith))
+
+all-there : (os : Orders) (i : ℕ) (f : Fills) → (os .count ≤ 8) × (i < os .count) → There os i f
+unfolding There
+all-there os i none-there h = tt
+all-there os i (fills o n) h = h
+all-there os i fails h = tt
+
+at-there : (mode : FillMode) (row : KernelTick) (os : Orders) (i : ℕ) → There os i (lotsAt mode row os i)
+unfolding lotsAt There
+at-there mode row os i = some-case (There os i) _ _ _ (λ o e. all-there os i (pick (matches row o) (taking-of o (fillLots mode row o)) none-there) (entry-there os i o e)) (λ _. tt)
+
+module _ (mode : FillMode) (row : KernelTick) (os : Orders) (i : ℕ) (r : Lots) (e : lotsTold r ≡ lotsAt mode row os i) where
+  pub take-there : (o : VenueOrder) (n : ℕ) → r ≡ lots.Take o n → (os .count ≤ 8) × (i < os .count)
+  unfolding There
+  take-there o n h = subst (There os i) (sym e ∙ ap lotsTold h) (at-there mode row os i)
+
 -- what a row does at a place, by what it fills there
 matchBy : Config → ℕ → KernelState → Fills → rules.Run
 matchBy c i s none-there = rules.ranTo s
@@ -232,40 +270,112 @@ match-by c row i s = by-order (entryAt 8 blankOrder i (ordersRow (s .orders)))
     by-order (some o) = unfold onSome in by-match o (matches row o)
 
 -- a turn of the pass: q orders are left, j behind this one
-module _ (w : List ℕ) (raised : ℕ) (cfg : Config) (row : KernelTick) (i : ℕ) (v : Venue) (q j : ℕ) (hq : q ≡ suc j)
-    (r : Lots) (e : lotsTold r ≡ lotsAt (cfg .fill) row (v .orders) i) where
-  turn-is : (s : KernelState) → matchFrom cfg row q i (withVenue s v) ≡ rules.andThen (matchBy cfg i (withVenue s v) (lotsTold r)) (matchFrom cfg row j (i + 1))
+module _ (w : List ℕ) (raised : ℕ) (cfg : Config) (row : KernelTick) (i : ℕ) (v : Venue) (os : Orders) (ds : Deliveries) (q j : ℕ) (hq : q ≡ suc j)
+    (r : Lots) (e : lotsTold r ≡ lotsAt (cfg .fill) row os i) where
+  turn-is : (s : KernelState) → matchFrom cfg row q i (withMatched s v os ds) ≡ rules.andThen (matchBy cfg i (withMatched s v os ds) (lotsTold r)) (matchFrom cfg row j (i + 1))
   unfolding matchFrom
-  turn-is s = rw (hq, match-by cfg row i (withVenue s v), ← e)
+  turn-is s = rw (hq, match-by cfg row i (withMatched s v os ds), ← e)
 
   pub match-past : r ≡ lots.Nothing → (s : KernelState)
-      → played (logAt w raised) (matchFrom cfg row j (i + 1) (withVenue s v)) ≡ played (logAt w raised) (matchFrom cfg row q i (withVenue s v))
+      → played (logAt w raised) (matchFrom cfg row j (i + 1) (withMatched s v os ds)) ≡ played (logAt w raised) (matchFrom cfg row q i (withMatched s v os ds))
   unfolding matchBy rules.andThen
   match-past h s = rw (turn-is s, h)
 
   pub match-fail : r ≡ lots.Fail → (s : KernelState)
-      → seen (venueIn s (record { outcome = Halt CounterOverflow; venue = v; raised = raised })) w ≡ played (logAt w raised) (matchFrom cfg row q i (withVenue s v))
+      → seen (matchedIn s (record { outcome = Halt CounterOverflow; venue = v; orders = os; deliveries = ds; raised = raised })) w ≡ played (logAt w raised) (matchFrom cfg row q i (withMatched s v os ds))
   unfolding matchBy rules.andThen played noted
   match-fail h s = rw (turn-is s, h)
 
-  module _ (o : VenueOrder) (n : ℕ) (h : r ≡ lots.Take o n) (w1 : List ℕ) (a : Matched)
-      (ea : (s : KernelState) → seen (venueIn s a) w1 ≡ played (logAt w raised) (fillAt cfg i o n (withVenue s v))) where
-    take-is : (s : KernelState) → matchFrom cfg row q i (withVenue s v) ≡ rules.andThen (fillAt cfg i o n (withVenue s v)) (matchFrom cfg row j (i + 1))
+  -- a fill: a is what it left
+  module _ (o : VenueOrder) (n : ℕ) (h : r ≡ lots.Take o n) (w1 : List ℕ) (a : Filled)
+      (ea : (s : KernelState) → seen (filledIn s a) w1 ≡ played (logAt w raised) (fillEvent o n (withVenue s v))) where
+    -- the state at the stamp
+    abbrev start : KernelState → KernelState
+    start s = withMatched s v os ds
+
+    take-is : (s : KernelState) → matchFrom cfg row q i (start s) ≡ rules.andThen (fillAt cfg i o n (start s)) (matchFrom cfg row j (i + 1))
     unfolding matchBy
     take-is s = turn-is s ∙ rw h
 
-    pub match-on : a .outcome ≡ Ran → (s : KernelState)
-        → played (logAt w1 (a .raised)) (matchFrom cfg row j (i + 1) (withVenue s (a .venue))) ≡ played (logAt w raised) (matchFrom cfg row q i (withVenue s v))
-    match-on k s = rw (take-is s) (sym (then-ran (logAt w raised) _ (matchFrom cfg row j (i + 1)) (venueIn s a) w1 (ea s) k))
+    -- what stops the fill stops the pass; where it ran, the pass goes on
+    stops : (s : KernelState) (b : Step) (w2 : List ℕ) → Stopped (b .outcome) → seen b w2 ≡ played (logAt w raised) (fillAt cfg i o n (start s)) → seen b w2 ≡ played (logAt w raised) (matchFrom cfg row q i (start s))
+    stops s b w2 m p = rw (take-is s) (then-stop (logAt w raised) _ (matchFrom cfg row j (i + 1)) b w2 p m)
+
+    goes-on : (s : KernelState) (b : Step) (w2 : List ℕ) → b .outcome ≡ Ran → seen b w2 ≡ played (logAt w raised) (fillAt cfg i o n (start s))
+        → played (logAt w2 (b .raised)) (matchFrom cfg row j (i + 1) (b .state)) ≡ played (logAt w raised) (matchFrom cfg row q i (start s))
+    goes-on s b w2 k p = rw (take-is s) (sym (then-ran (logAt w raised) _ (matchFrom cfg row j (i + 1)) b w2 p k))
 
     pub match-stop : Stopped (a .outcome) → (s : KernelState)
-        → seen (venueIn s a) w1 ≡ played (logAt w raised) (matchFrom cfg row q i (withVenue s v))
-    match-stop m s = rw (take-is s) (then-stop (logAt w raised) _ (matchFrom cfg row j (i + 1)) (venueIn s a) w1 (ea s) m)
+        → seen (matchedIn s (record { outcome = a .outcome; venue = a .venue; orders = os; deliveries = ds; raised = a .raised })) w1 ≡ played (logAt w raised) (matchFrom cfg row q i (start s))
+    match-stop m s =
+        stops s (filledIn (withDeliveries (withOrders s os) ds) a) w1 m
+        (rw (fill-parts cfg i o n (start s) .is) (then-stop (logAt w raised) _ (telling cfg i o n (start s)) (filledIn (withDeliveries (withOrders s os) ds) a) w1 (ea (withDeliveries (withOrders s os) ds)) m))
 
-pub match-end : (w : List ℕ) (raised : ℕ) (cfg : Config) (row : KernelTick) (i : ℕ) (v : Venue) (q : ℕ) → q ≡ 0 → (s : KernelState)
-    → seen (venueIn s (record { outcome = Ran; venue = v; raised = raised })) w ≡ played (logAt w raised) (matchFrom cfg row q i (withVenue s v))
+    -- the fill ran: the order is stored, b is what its report left
+    module _ (k : a .outcome ≡ Ran) (filled : VenueOrder) (ef : filled ≡ filledBy n o) (kind : ExecKind) (ek : kind ≡ fillKind n o)
+        (report : ReportRec) (er : report ≡ reportAt (v .clock .«now_ns») (v .seqs .«stamp_seq») filled kind (o .«cancel_inflight») n)
+        (rec : FillRec) (ec : rec ≡ recordAt (v .clock .«now_ns») (v .seqs .«next_exec_id») o n)
+        (w2 : List ℕ) (b : Reported) (eb : (s : KernelState) → seen (reportedIn s b) w2 ≡ played (logAt w1 (a .raised)) (reported cfg report (withReport s (a .venue .«rng_latency») (a .venue .clock)))) where
+      t : (os .count ≤ 8) × (i < os .count)
+      t = take-there (cfg .fill) row os i r e o n h
+
+      abbrev store : Orders
+      store = record { slots = set (os .slots) i filled; count = os .count }
+
+      abbrev venue : Venue
+      venue = record { «rng_latency» = b .«rng_latency»; clock = b .clock; seqs = a .venue .seqs; gate = a .venue .gate; counters = a .venue .counters }
+
+      -- the state at the report
+      abbrev held : KernelState → KernelState
+      held s = withMatched s (a .venue) store ds
+
+      telling-is : (s : KernelState) → telling cfg i o n (start s) (withMatched s (a .venue) os ds) ≡ rules.andThen (reported cfg report (held s)) (push-of report (fill.Some rec))
+      unfolding fillReport fillRecord
+      telling-is s = rw (← ef, ← ek, ← er, ← ec, ← (store-in 8 (ordersRow os) filled i (t .0) (t .1))) (queue-parts cfg report (fill.Some rec) (held s) .is)
+
+      -- the rest of the fill is the report, then the push
+      reports : (s : KernelState) {x : Seen} → x ≡ played (logAt w1 (a .raised)) (rules.andThen (reported cfg report (held s)) (push-of report (fill.Some rec)))
+          → x ≡ played (logAt w raised) (fillAt cfg i o n (start s))
+      reports s p =
+          rw (fill-parts cfg i o n (start s) .is)
+          (then-on (logAt w raised) _ (telling cfg i o n (start s)) (filledIn (withDeliveries (withOrders s os) ds) a) w1 (ea (withDeliveries (withOrders s os) ds)) k
+          (p ∙ ap (played (logAt w1 (a .raised))) (sym (telling-is s))))
+
+      pub match-unreported : Stopped (b .outcome) → (s : KernelState)
+          → seen (matchedIn s (record { outcome = b .outcome; venue = venue; orders = store; deliveries = ds; raised = b .raised })) w2 ≡ played (logAt w raised) (matchFrom cfg row q i (start s))
+      match-unreported m s =
+          stops s (reportedIn (held s) b) w2 m
+          (reports s (then-stop (logAt w1 (a .raised)) _ (push-of report (fill.Some rec)) (reportedIn (held s) b) w2 (eb (held s)) m))
+
+      -- the report ran: the delivery goes in, or the list is full
+      module _ (l : b .outcome ≡ Ran) where
+        pushes : (s : KernelState) {x : Seen} → x ≡ played (logAt w2 (b .raised)) (push-of report (fill.Some rec) (withMatched s venue store ds)) → x ≡ played (logAt w raised) (fillAt cfg i o n (start s))
+        pushes s p = reports s (then-on (logAt w1 (a .raised)) _ (push-of report (fill.Some rec)) (reportedIn (held s) b) w2 (eb (held s)) l p)
+
+        pub match-full : 24 ≤ ds .count → (s : KernelState)
+            → seen (matchedIn s (record { outcome = Halt CounterOverflow; venue = venue; orders = store; deliveries = ds; raised = b .raised })) w2 ≡ played (logAt w raised) (matchFrom cfg row q i (start s))
+        match-full f s =
+            stops s (matchedIn s (record { outcome = Halt CounterOverflow; venue = venue; orders = store; deliveries = ds; raised = b .raised })) w2 (inr (inl refl))
+            (pushes s (unfold pushDelivery rules.putting pick played noted in rw (← (put-full 24 (deliveriesRow ds) (ds .count) (record { «at_ns» = b .clock .«last_delivery_ns»; report = report; fill = fill.Some rec }) f))))
+
+        pub match-on : ds .count < 24 → length (ds .slots) ≡ 24 → (s : KernelState)
+            → played (logAt w2 (b .raised)) (matchFrom cfg row j (i + 1) (withMatched s venue store
+            (record { slots = set (ds .slots) (ds .count) (record { «at_ns» = b .clock .«last_delivery_ns»; report = report; fill = fill.Some rec }); count = ds .count + 1 })))
+            ≡ played (logAt w raised) (matchFrom cfg row q i (start s))
+        match-on f z s =
+            goes-on s (matchedIn s (record {
+              outcome = Ran;
+              venue = venue;
+              orders = store;
+              deliveries = record { slots = set (ds .slots) (ds .count) (record { «at_ns» = b .clock .«last_delivery_ns»; report = report; fill = fill.Some rec }); count = ds .count + 1 };
+              raised = b .raised;
+            })) w2 refl
+            (pushes s (unfold pushDelivery rules.putting pick played noted in rw (← (push-in 24 (deliveriesRow ds) (record { «at_ns» = b .clock .«last_delivery_ns»; report = report; fill = fill.Some rec }) f z))))
+
+pub match-end : (w : List ℕ) (raised : ℕ) (cfg : Config) (row : KernelTick) (i : ℕ) (v : Venue) (os : Orders) (ds : Deliveries) (q : ℕ) → q ≡ 0 → (s : KernelState)
+    → seen (matchedIn s (record { outcome = Ran; venue = v; orders = os; deliveries = ds; raised = raised })) w ≡ played (logAt w raised) (matchFrom cfg row q i (withMatched s v os ds))
 unfolding matchFrom
-match-end w raised cfg row i v q h s = rw h (played-ran (logAt w raised) (withVenue s v))
+match-end w raised cfg row i v os ds q h s = rw h (played-ran (logAt w raised) (withMatched s v os ds))
 
 -- ---- a terminal order that leaves
 module _ (os : Orders) (i : ℕ) (got : MaybeOrder) (e : orderIn got ≡ entryAt 8 blankOrder i (ordersRow os)) where
@@ -344,24 +454,22 @@ pub mark-some : (g : GateState) (mid2 : ℕ) → (mid2 ≡ 0 → ⊥) → gateMa
 unfolding marked pick
 mark-some g mid2 h = rw (ne-eqb mid2 0 h)
 
--- ---- a row
-module _ (w : List ℕ) (raised : ℕ) (cfg : Config) (row : KernelTick) (s : KernelState) (sum : MaybeU64) (e : sum ≡ fitting (row .bid + row .ask)) where
-  pub row-halt : sum ≡ u64.None → seen (record { outcome = Halt LedgerOverflow; state = s; raised = raised }) w ≡ played (logAt w raised) (matchRow cfg row s)
-  unfolding matchRow onWord played noted
-  row-halt h = rw (← e, h)
+-- ---- an order that stirs
+module _ (row : KernelTick) (o : VenueOrder) (t : Bool) (e : t ≡ isTerminal (o .state)) where
+  pub stirs-terminal : t ≡ true → true ≡ stirs row o
+  unfolding stirs pick
+  stirs-terminal h = rw (← e, h)
 
-  module _ (mid2 : ℕ) (h : sum ≡ u64.Some mid2) (gate : GateState) (eg : gate ≡ marked mid2 (s .gate)) (w1 : List ℕ) (a : Matched)
-      (ea : (u : KernelState) → seen (venueIn u a) w1 ≡ played (logAt w raised) (matchFrom cfg row (s .orders .count) 0 (withVenue u
-      (record { «rng_latency» = s .«rng_latency»; clock = s .clock; seqs = s .seqs; gate = gate; counters = s .counters; orders = s .orders; deliveries = s .deliveries })))) where
-    row-is : matchRow cfg row s ≡ rules.andThen (matchFrom cfg row (s .orders .count) 0 (withGate s gate)) sweep
-    unfolding matchRow onWord
-    row-is = rw (← e, h, ← eg)
+  pub stirs-matched : t ≡ false → (b : Bool) → b ≡ matches row o → b ≡ stirs row o
+  unfolding stirs pick
+  stirs-matched h b k = rw (← e, h) k
 
-    pub row-stop : Stopped (a .outcome) → seen (venueIn s a) w1 ≡ played (logAt w raised) (matchRow cfg row s)
-    row-stop m = rw row-is (then-stop (logAt w raised) _ sweep (venueIn s a) w1 (ea s) m)
+-- ---- whether a live order stirs
+module _ (row : KernelTick) (os : Orders) where
+  pub busy-none : none ≡ foundIn (stirs row) (live 8 (ordersRow os)) → false ≡ busy row os
+  unfolding busy onSome
+  busy-none h = rw (← h)
 
-    pub row-on : a .outcome ≡ Ran → (b : Swept)
-        → ((u : KernelState) (n : ℕ) (x : List ℕ) → seen (sweptIn u n b) x ≡ played (logAt x n) (sweepFrom (a .venue .orders .count) 0 (withSwept u (a .venue .orders) (s .msgs) (s .awaiting))))
-        → seen (sweptIn (withVenue s (a .venue)) (a .raised) b) w1 ≡ played (logAt w raised) (matchRow cfg row s)
-    unfolding sweep
-    row-on k b eb = rw row-is (eb (withVenue s (a .venue)) (a .raised) w1 ∙ sym (then-ran (logAt w raised) _ sweep (venueIn s a) w1 (ea s) k))
+  pub busy-some : (i : ℕ) → some i ≡ foundIn (stirs row) (live 8 (ordersRow os)) → true ≡ busy row os
+  unfolding busy onSome
+  busy-some i h = rw (← h)

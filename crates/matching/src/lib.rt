@@ -1,4 +1,5 @@
 // Matching a row over the booked orders, and the terminal orders that leave after it.
+use book::Delivery;
 use book::ExecKind;
 use book::FillRec;
 use book::MaybeFill;
@@ -16,7 +17,6 @@ use book::state::Counters;
 use book::state::GateState;
 use book::state::HaltReason;
 use book::state::KernelEvent;
-use book::state::KernelState;
 use book::state::Seqs;
 use messages::remove_expiry;
 use models::fill::fill_lots;
@@ -27,9 +27,8 @@ use numbers::MaybeU64;
 use numbers::words::checked_add;
 use numbers::words::checked_mul;
 use reports::Outcome;
-use reports::Step;
 use reports::log::emit;
-use reports::report::queue_delivery;
+use reports::report::report_on;
 use reports::report::status_report;
 ghost use mathlib.Core.Path.{_≡_};
 ghost use mathlib.Core.List.{List};
@@ -37,24 +36,33 @@ ghost use Prim.Native.Nat.{ℕ, _≤_};
 ghost use Rattle.book.specs.Entries.{remaining};
 ghost use Rattle.book.specs.declared.state.KernelState.{KernelState};
 ghost use Rattle.book.specs.With.{withOrders};
-ghost use Rattle.rules.specs.Matching.{filledBy, fillTold, fillAt, matchFrom, leave, terminalAt, sweepFrom, marked, matchRow};
+ghost use Rattle.rules.specs.Run.{haltAt};
+ghost use Rattle.rules.specs.Matching.{filledBy, matchFrom, leave, terminalAt, sweepFrom, marked};
 ghost use Rattle.reports.specs.Log.{logAt, played, seen};
-ghost use Rattle.matching.specs.Matching.{stampedBy, fillKind, withVenue, venueIn, lotsAt, lotsTold, sweptIn, withSwept};
+ghost use Rattle.matching.specs.Matching.{fillKind, recordAt, fillEvent, withVenue, filledIn, lotsAt, lotsTold, withMatched, matchedIn, stirs, busy, sweptIn, withSwept};
 
-// What a match pass changes of the state.
+// What a fill changes of the state beside the two lists.
 pub struct Venue {
     pub rng_latency: u64,
     pub clock: Clock,
     pub seqs: Seqs,
     pub gate: GateState,
     pub counters: Counters,
-    pub orders: Orders,
-    pub deliveries: Deliveries,
 }
 
+// A fill up to its event.
+pub struct Filled {
+    pub outcome: Outcome,
+    pub venue: Venue,
+    pub raised: u64,
+}
+
+// What a match pass changes of the state.
 pub struct Matched {
     pub outcome: Outcome,
     pub venue: Venue,
+    pub orders: Orders,
+    pub deliveries: Deliveries,
     pub raised: u64,
 }
 
@@ -89,79 +97,6 @@ fn filled_by(order: VenueOrder, lots: u64) -> VenueOrder
     next
 }
 
-// A fill whose gate and exec id are written: the counter, the event, the order and the report. `before` are the numbers at its stamp.
-fn fill_told(
-    log: &mut [u64],
-    raised: u64,
-    cfg: Config,
-    index: usize,
-    order: VenueOrder,
-    lots: u64,
-    before: Seqs,
-    v: Venue,
-) -> Matched
-    requires { ⌜ lots ≤ remaining order ⌝ }
-    ensures { λ r. ⌜ ((s : KernelState) → seen (venueIn s r) (now (log .exit)) ≡ played (logAt (now (log .entry)) raised) (fillTold cfg index order lots (stampedBy before (withVenue s v)) (withVenue s v))) ⌝ }
-{
-    let count = checked_add(v.counters.venue_fills, 1);
-    let MaybeU64::Some(venue_fills) = count else {
-        return Matched {
-            outcome: Outcome::Halt(HaltReason::CounterOverflow),
-            venue: v,
-            raised,
-        };
-    };
-    let side = order.side;
-    let fill = FillRec {
-        ts_ns: v.clock.now_ns,
-        exec_id: before.next_exec_id,
-        order_id: order.id,
-        side,
-        price: order.price,
-        qty: lots,
-    };
-    let n = emit(log, raised, KernelEvent::Fill(fill));
-    let filled = filled_by(order, lots);
-    let orders = v.orders;
-    let put = orders.store(index, filled);
-    let kind = fill_kind(order, lots);
-    let report = status_report(
-        v.clock.now_ns,
-        before.stamp_seq,
-        filled,
-        kind,
-        order.cancel_inflight,
-        lots,
-    );
-    let clock = v.clock;
-    let deliveries = v.deliveries;
-    let q = queue_delivery(
-        log,
-        n,
-        cfg,
-        report,
-        MaybeFill::Some(fill),
-        v.rng_latency,
-        clock,
-        deliveries,
-    );
-    let list = put.list;
-    let c = q.clock;
-    let d = q.deliveries;
-    let o = q.outcome;
-    let mut next = v;
-    next.counters.venue_fills = venue_fills;
-    next.orders = list;
-    next.rng_latency = q.rng_latency;
-    next.clock = c;
-    next.deliveries = d;
-    Matched {
-        outcome: o,
-        venue: next,
-        raised: q.raised,
-    }
-}
-
 fn fill_kind(order: VenueOrder, lots: u64) -> ExecKind
     ensures { λ r. ⌜ r ≡ fillKind lots order ⌝ }
 {
@@ -172,27 +107,40 @@ fn fill_kind(order: VenueOrder, lots: u64) -> ExecKind
     ExecKind::PartialFill
 }
 
-// A fill: the stamp, then the gate and the exec id, written only when both and the doubled price have passed.
-fn fill_at(
-    log: &mut [u64],
-    raised: u64,
-    cfg: Config,
-    index: usize,
-    order: VenueOrder,
-    lots: u64,
-    v: Venue,
-) -> Matched
-    requires { ⌜ lots ≤ remaining order ⌝ }
-    ensures { λ r. ⌜ ((s : KernelState) → seen (venueIn s r) (now (log .exit)) ≡ played (logAt (now (log .entry)) raised) (fillAt cfg index order lots (withVenue s v))) ⌝ }
+// The record of a fill, by the numbers at its stamp.
+fn fill_record(now_ns: u64, exec_id: u64, order: VenueOrder, lots: u64) -> FillRec
+    ensures { λ r. ⌜ r ≡ recordAt «now_ns» «exec_id» order lots ⌝ }
+{
+    let side = order.side;
+    FillRec {
+        ts_ns: now_ns,
+        exec_id,
+        order_id: order.id,
+        side,
+        price: order.price,
+        qty: lots,
+    }
+}
+
+// A fill that halts, with what it has changed so far.
+fn stopped(reason: HaltReason, venue: Venue, raised: u64) -> Filled
+    ensures { λ r. ⌜ ((s : KernelState) (w : List ℕ) → seen (filledIn s r) w ≡ played (logAt w raised) (haltAt reason (withVenue s venue))) ⌝ }
+{
+    Filled {
+        outcome: Outcome::Halt(reason),
+        venue,
+        raised,
+    }
+}
+
+// A fill: the stamp, then the gate and the exec id, written only when both and the doubled price have passed; the counter and the event.
+fn fill_at(log: &mut [u64], raised: u64, order: VenueOrder, lots: u64, v: Venue) -> Filled
+    ensures { λ r. ⌜ ((s : KernelState) → seen (filledIn s r) (now (log .exit)) ≡ played (logAt (now (log .entry)) raised) (fillEvent order lots (withVenue s v))) ⌝ }
 {
     let before = v.seqs;
     let next = checked_add(before.stamp_seq, 1);
     let MaybeU64::Some(stamp_seq) = next else {
-        return Matched {
-            outcome: Outcome::Halt(HaltReason::CounterOverflow),
-            venue: v,
-            raised,
-        };
+        return stopped(HaltReason::CounterOverflow, v, raised);
     };
     let mut u = v;
     u.seqs.stamp_seq = stamp_seq;
@@ -200,31 +148,30 @@ fn fill_at(
     let g = v.gate;
     let gated = gate::fill(g, side, lots);
     let Gated::Kept(kept) = gated else {
-        return Matched {
-            outcome: Outcome::Halt(HaltReason::CounterOverflow),
-            venue: u,
-            raised,
-        };
+        return stopped(HaltReason::CounterOverflow, u, raised);
     };
     let doubled = checked_mul(order.price, 2);
     let MaybeU64::Some(_) = doubled else {
-        return Matched {
-            outcome: Outcome::Halt(HaltReason::LedgerOverflow),
-            venue: u,
-            raised,
-        };
+        return stopped(HaltReason::LedgerOverflow, u, raised);
     };
     let exec = checked_add(before.next_exec_id, 1);
     let MaybeU64::Some(next_exec_id) = exec else {
-        return Matched {
-            outcome: Outcome::Halt(HaltReason::CounterOverflow),
-            venue: u,
-            raised,
-        };
+        return stopped(HaltReason::CounterOverflow, u, raised);
     };
     u.gate = kept;
     u.seqs.next_exec_id = next_exec_id;
-    fill_told(log, raised, cfg, index, order, lots, before, u)
+    let count = checked_add(v.counters.venue_fills, 1);
+    let MaybeU64::Some(venue_fills) = count else {
+        return stopped(HaltReason::CounterOverflow, u, raised);
+    };
+    u.counters.venue_fills = venue_fills;
+    let fill = fill_record(v.clock.now_ns, before.next_exec_id, order, lots);
+    let n = emit(log, raised, KernelEvent::Fill(fill));
+    Filled {
+        outcome: Outcome::Ran,
+        venue: u,
+        raised: n,
+    }
 }
 
 // What the row fills of the order at a place.
@@ -248,45 +195,89 @@ fn lots_at(mode: FillMode, row: KernelTick, orders: Orders, index: usize) -> Lot
     Lots::Take(order, n)
 }
 
-// The orders in list order.
-fn match_orders(log: &mut [u64], raised: u64, cfg: Config, row: KernelTick, venue: Venue) -> Matched
-    ensures { λ r. ⌜ ((s : KernelState) → seen (venueIn s r) (now (log .exit)) ≡ played (logAt (now (log .entry)) raised) (matchFrom cfg row (venue .orders .count) 0 (withVenue s venue))) ⌝ }
+// The orders in list order. A filled order and its delivery are stored in place: a list that is handed on by value is copied at each fill.
+pub fn match_orders(
+    log: &mut [u64],
+    raised: u64,
+    cfg: Config,
+    row: KernelTick,
+    venue: Venue,
+    orders: Orders,
+    deliveries: Deliveries,
+) -> Matched
+    ensures { λ r. ⌜ ((s : KernelState) → seen (matchedIn s r) (now (log .exit)) ≡ played (logAt (now (log .entry)) raised) (matchFrom cfg row (orders .count) 0 (withMatched s venue orders deliveries))) ⌝ }
 {
-    let count = venue.orders.count;
+    let count = orders.count;
+    let mode = cfg.fill;
     let mut v = venue;
+    let mut os = orders;
+    let mut ds = deliveries;
     let mut n = raised;
     let mut i = 0;
-    while i < count {
-        let orders = v.orders;
-        let mode = cfg.fill;
-        let lots = lots_at(mode, row, orders, i);
+    let outcome = loop {
+        if i >= count {
+            break Outcome::Ran;
+        }
+        let lots = lots_at(mode, row, os, i);
         match lots {
             Lots::Nothing => {
                 i += 1;
                 continue;
             }
             Lots::Fail => {
-                return Matched {
-                    outcome: Outcome::Halt(HaltReason::CounterOverflow),
-                    venue: v,
-                    raised: n,
-                };
+                break Outcome::Halt(HaltReason::CounterOverflow);
             }
             Lots::Take(order, k) => {
-                let a = fill_at(log, n, cfg, i, order, k, v);
-                let o = a.outcome;
-                let Outcome::Ran = o else {
-                    return a;
-                };
+                let before = v.seqs;
+                let now_ns = v.clock.now_ns;
+                let a = fill_at(log, n, order, k, v);
                 v = a.venue;
                 n = a.raised;
+                let o = a.outcome;
+                let Outcome::Ran = o else {
+                    break o;
+                };
+                let filled = filled_by(order, k);
+                os.slots[i] = filled;
+                let kind = fill_kind(order, k);
+                let report = status_report(
+                    now_ns,
+                    before.stamp_seq,
+                    filled,
+                    kind,
+                    order.cancel_inflight,
+                    k,
+                );
+                let clock = v.clock;
+                let q = report_on(log, n, cfg, report, v.rng_latency, clock);
+                let c = q.clock;
+                v.rng_latency = q.rng_latency;
+                v.clock = c;
+                n = q.raised;
+                let p = q.outcome;
+                let Outcome::Ran = p else {
+                    break p;
+                };
+                let at = ds.count;
+                if at >= 24 {
+                    break Outcome::Halt(HaltReason::CounterOverflow);
+                }
+                let fill = fill_record(now_ns, before.next_exec_id, order, k);
+                ds.slots[at] = Delivery {
+                    at_ns: c.last_delivery_ns,
+                    report,
+                    fill: MaybeFill::Some(fill),
+                };
+                ds.count = at + 1;
                 i += 1;
             }
         }
-    }
+    };
     Matched {
-        outcome: Outcome::Ran,
+        outcome,
         venue: v,
+        orders: os,
+        deliveries: ds,
         raised: n,
     }
 }
@@ -345,7 +336,7 @@ fn leave(index: usize, orders: Orders, msgs: Msgs, awaiting: Orders) -> Swept
 }
 
 // The terminal orders leave. A pass has as many looks as there are orders; where one left, the next stands at its place.
-fn sweep(orders: Orders, msgs: Msgs, awaiting: Orders) -> Swept
+pub fn sweep(orders: Orders, msgs: Msgs, awaiting: Orders) -> Swept
     ensures { λ r. ⌜ ((s : KernelState) (n : ℕ) (w : List ℕ) → seen (sweptIn s n r) w ≡ played (logAt w n) (sweepFrom (orders .count) 0 (withSwept s orders msgs awaiting))) ⌝ }
 {
     let looks = orders.count;
@@ -378,7 +369,36 @@ fn sweep(orders: Orders, msgs: Msgs, awaiting: Orders) -> Swept
     }
 }
 
-fn mark(gate: GateState, mid2: u64) -> GateState
+// Whether a row has anything to do with an order: it is terminal, or it matches.
+fn stirs(row: KernelTick, order: VenueOrder) -> bool
+    ensures { λ r. ⌜ r ≡ stirs row order ⌝ }
+{
+    let state = order.state;
+    if state.is_terminal() {
+        return true;
+    }
+    matches(row, order)
+}
+
+// Whether a row has anything to do with a live order. Where it has not, the pass and the sweep change nothing, and both are skipped.
+pub fn busy(row: KernelTick, orders: Orders) -> bool
+    ensures { λ r. ⌜ r ≡ busy row orders ⌝ }
+{
+    let list = orders;
+    let count = list.count;
+    if count > 8 {
+        return false;
+    }
+    for i in 0..count {
+        let order = list.slots[i];
+        if stirs(row, order) {
+            return true;
+        }
+    }
+    false
+}
+
+pub fn mark(gate: GateState, mid2: u64) -> GateState
     ensures { λ r. ⌜ r ≡ marked mid2 gate ⌝ }
 {
     if mid2 == 0 {
@@ -390,74 +410,5 @@ fn mark(gate: GateState, mid2: u64) -> GateState
         live_buy_lots: gate.live_buy_lots,
         live_sell_lots: gate.live_sell_lots,
         mark2: MaybeU64::Some(mid2),
-    }
-}
-
-// Matches the resting orders against the row.
-pub fn match_row(log: &mut [u64], raised: u64, cfg: Config, row: KernelTick, s: KernelState) -> Step
-    ensures { λ r. ⌜ seen r (now (log .exit)) ≡ played (logAt (now (log .entry)) raised) (matchRow cfg row s) ⌝ }
-{
-    let sum = checked_add(row.bid, row.ask);
-    let MaybeU64::Some(mid2) = sum else {
-        return Step {
-            outcome: Outcome::Halt(HaltReason::LedgerOverflow),
-            state: s,
-            raised,
-        };
-    };
-    let g = s.gate;
-    let gate = mark(g, mid2);
-    let clock = s.clock;
-    let seqs = s.seqs;
-    let counters = s.counters;
-    let orders = s.orders;
-    let deliveries = s.deliveries;
-    let venue = Venue {
-        rng_latency: s.rng_latency,
-        clock,
-        seqs,
-        gate,
-        counters,
-        orders,
-        deliveries,
-    };
-    let a = match_orders(log, raised, cfg, row, venue);
-    let v = a.venue;
-    let clock2 = v.clock;
-    let seqs2 = v.seqs;
-    let gate2 = v.gate;
-    let counters2 = v.counters;
-    let orders2 = v.orders;
-    let deliveries2 = v.deliveries;
-    let mut t = s;
-    t.rng_latency = v.rng_latency;
-    t.clock = clock2;
-    t.seqs = seqs2;
-    t.gate = gate2;
-    t.counters = counters2;
-    t.orders = orders2;
-    t.deliveries = deliveries2;
-    let o = a.outcome;
-    let Outcome::Ran = o else {
-        return Step {
-            outcome: o,
-            state: t,
-            raised: a.raised,
-        };
-    };
-    let msgs = t.msgs;
-    let awaiting = t.awaiting;
-    let w = sweep(orders2, msgs, awaiting);
-    let orders3 = w.orders;
-    let msgs3 = w.msgs;
-    let awaiting3 = w.awaiting;
-    let p = w.outcome;
-    t.orders = orders3;
-    t.msgs = msgs3;
-    t.awaiting = awaiting3;
-    Step {
-        outcome: p,
-        state: t,
-        raised: a.raised,
     }
 }

@@ -1,14 +1,14 @@
--- `queue_delivery`: one law for each way out. Assumes nothing.
+-- `report_on` and `queue_delivery`: one law for each way out. Assumes nothing.
 use Prim.Native.Nat.{ℕ, max}
 use mathlib.Core.Bool.{true, false}
-use mathlib.Core.List.{List, _++_}
-use mathlib.Core.Path.{_≡_, refl, sym, _∙_}
+use mathlib.Core.List.{List}
+use mathlib.Core.Path.{_≡_, refl}
 use Rattle.numbers.specs.Choice.{pick}
 use Rattle.numbers.specs.Words.{onWord}
 use Rattle.numbers.specs.declared.MaybeU64.the-variants.{None, Some}
 use Rattle.lists.specs.Lists.{pushed}
 use Rattle.book.specs.Rows.{deliveriesRow, deliveriesPut}
-use Rattle.book.specs.With.{clockLastDeliveryNs}
+use Rattle.book.specs.With.{withDeliveries, clockLastDeliveryNs}
 use Rattle.book.specs.declared.MaybeFill.{MaybeFill}
 use Rattle.book.specs.declared.ReportRec.{ReportRec}
 use Rattle.book.specs.declared.config.Config.{Config}
@@ -22,28 +22,61 @@ use Rattle.models.specs.Told.{delayTold}
 use Rattle.models.specs.declared.latency.Arrival.{Arrival}
 use Rattle.rules.specs.Run as rules
 use Rattle.rules.specs.Report.{delay, delayed, pushDelivery, queueDelivery}
-use Rattle.reports.specs.Log.{logAt, note, noted, played, seen}
-use Rattle.reports.specs.Report.{withQueue, queuedIn}
+use Rattle.reports.specs.Log.{logAt, note, noted, Seen, played, seen}
+use Rattle.reports.specs.Report.{reported, withReport, reportedIn, withQueue, queuedIn}
 use Rattle.reports.specs.declared.Outcome.the-variants.{Ran, Halt}
+use Rattle.reports.specs.declared.report.Reported.{Reported}
+use Rattle.reports.proofs.Then.{Stopped, then-stop, then-on, Parts, halt-parts, word-parts}
 
-module _ (w : List ℕ) (raised : ℕ) (cfg : Config) (report : ReportRec) (fill : MaybeFill) (rng : ℕ) (clock : Clock) (deliveries : Deliveries)
+-- ---- a report that is told
+module _ (w : List ℕ) (raised : ℕ) (cfg : Config) (report : ReportRec) (rng : ℕ) (clock : Clock)
     (a : Arrival) (e : delayTold a ≡ delay cfg rng (report .«ts_ns») (cfg .«ack_q»)) where
-  pub queue-late : a .time ≡ None → (s : KernelState)
-      → seen (queuedIn s (record { outcome = Halt TimeOverflow; «rng_latency» = a .rng; clock = clock; deliveries = deliveries; raised = raised })) w
-      ≡ played (logAt w raised) (queueDelivery cfg report fill (withQueue s rng clock deliveries))
-  unfolding queueDelivery delayed onWord played noted
-  queue-late h s = rw (← e, h)
+  pub report-late : a .time ≡ None → (s : KernelState)
+      → seen (reportedIn s (record { outcome = Halt TimeOverflow; «rng_latency» = a .rng; clock = clock; raised = raised })) w
+      ≡ played (logAt w raised) (reported cfg report (withReport s rng clock))
+  unfolding reported delayed onWord played noted
+  report-late h s = rw (← e, h)
 
-  module _ (at when n : ℕ) (w1 : List ℕ) (put : DeliveriesPut) (h : a .time ≡ Some at) (m : when ≡ max at (clock .«last_delivery_ns»))
-      (em : logAt w1 n ≡ note (logAt w raised) (Report report)) (p : deliveriesPut put ≡ pushed 24 (record { «at_ns» = when; report = report; fill = fill }) (deliveriesRow deliveries)) where
+  pub report-told : (at when n : ℕ) (w1 : List ℕ) → a .time ≡ Some at → when ≡ max at (clock .«last_delivery_ns») → logAt w1 n ≡ note (logAt w raised) (Report report) → (s : KernelState)
+      → seen (reportedIn s (record { outcome = Ran; «rng_latency» = a .rng; clock = clockLastDeliveryNs clock when; raised = n })) w1
+      ≡ played (logAt w raised) (reported cfg report (withReport s rng clock))
+  unfolding reported delayed onWord played noted
+  report-told at when n w1 h m em s = rw (← e, h, ← m, ← em)
+
+-- ---- a report, then its delivery
+-- the push at the time that the clock has
+abbrev pub push-of : ReportRec → MaybeFill → KernelState → rules.Run
+push-of r f t = pushDelivery (record { «at_ns» = t .clock .«last_delivery_ns»; report = r; fill = f }) t
+
+-- `queueDelivery` is `reported`, then the push
+pub queue-parts : (c : Config) (r : ReportRec) (f : MaybeFill) (s : KernelState) → Parts (push-of r f) (queueDelivery c r f s) (reported c r s)
+unfolding queueDelivery reported delayed
+queue-parts c r f s = word-parts _ (λ at. unfold rules.andThen in record { is = refl }) (halt-parts _ _)
+
+module _ (w w1 : List ℕ) (raised : ℕ) (cfg : Config) (report : ReportRec) (fill : MaybeFill) (rng : ℕ) (clock : Clock) (deliveries : Deliveries)
+    (a : Reported) (e : (s : KernelState) → seen (reportedIn s a) w1 ≡ played (logAt w raised) (reported cfg report (withReport s rng clock))) where
+  pub queue-stop : Stopped (a .outcome) → (s : KernelState)
+      → seen (queuedIn s (record { outcome = a .outcome; «rng_latency» = a .«rng_latency»; clock = a .clock; deliveries = deliveries; raised = a .raised })) w1
+      ≡ played (logAt w raised) (queueDelivery cfg report fill (withQueue s rng clock deliveries))
+  queue-stop m s =
+      rw (queue-parts cfg report fill (withQueue s rng clock deliveries) .is)
+      (then-stop (logAt w raised) _ (push-of report fill) (reportedIn (withDeliveries s deliveries) a) w1 (e (withDeliveries s deliveries)) m)
+
+  module _ (h : a .outcome ≡ Ran) (put : DeliveriesPut)
+      (p : deliveriesPut put ≡ pushed 24 (record { «at_ns» = a .clock .«last_delivery_ns»; report = report; fill = fill }) (deliveriesRow deliveries)) where
+    -- what the push leaves is what the whole leaves
+    pushes : (s : KernelState) {x : Seen} → x ≡ played (logAt w1 (a .raised)) (push-of report fill (withQueue s (a .«rng_latency») (a .clock) deliveries))
+        → x ≡ played (logAt w raised) (queueDelivery cfg report fill (withQueue s rng clock deliveries))
+    pushes s q =
+        rw (queue-parts cfg report fill (withQueue s rng clock deliveries) .is)
+        (then-on (logAt w raised) _ (push-of report fill) (reportedIn (withDeliveries s deliveries) a) w1 (e (withDeliveries s deliveries)) h q)
+
     pub queue-in : put .ok ≡ true → (s : KernelState)
-        → seen (queuedIn s (record { outcome = Ran; «rng_latency» = a .rng; clock = clockLastDeliveryNs clock when; deliveries = put .list; raised = n })) w1
+        → seen (queuedIn s (record { outcome = Ran; «rng_latency» = a .«rng_latency»; clock = a .clock; deliveries = put .list; raised = a .raised })) w1
         ≡ played (logAt w raised) (queueDelivery cfg report fill (withQueue s rng clock deliveries))
-    unfolding queueDelivery delayed onWord pushDelivery rules.putting pick played noted rules.andThen
-    queue-in o s = rw (← e, h, ← m, ← p, o, ← em)
+    queue-in o s = pushes s (unfold pushDelivery rules.putting pick played noted in rw (← p, o))
 
     pub queue-full : put .ok ≡ false → (s : KernelState)
-        → seen (queuedIn s (record { outcome = Halt CounterOverflow; «rng_latency» = a .rng; clock = clockLastDeliveryNs clock when; deliveries = deliveries; raised = n })) w1
+        → seen (queuedIn s (record { outcome = Halt CounterOverflow; «rng_latency» = a .«rng_latency»; clock = a .clock; deliveries = deliveries; raised = a .raised })) w1
         ≡ played (logAt w raised) (queueDelivery cfg report fill (withQueue s rng clock deliveries))
-    unfolding queueDelivery delayed onWord pushDelivery rules.putting pick played noted rules.andThen
-    queue-full o s = rw (← e, h, ← m, ← p, o, ← em)
+    queue-full o s = pushes s (unfold pushDelivery rules.putting pick played noted in rw (← p, o))

@@ -22,7 +22,15 @@ ghost use Rattle.book.specs.declared.state.KernelState.{KernelState};
 ghost use Rattle.book.specs.declared.MaybeFill.the-variants.{None};
 ghost use Rattle.rules.specs.Report.{queueDelivery};
 ghost use Rattle.reports.specs.Log.{logAt, played, seen};
-ghost use Rattle.reports.specs.Report.{reportAt, queuedIn, withQueue};
+ghost use Rattle.reports.specs.Report.{reportAt, reported, reportedIn, withReport, queuedIn, withQueue};
+
+// What telling a report changes: the clock's `last_delivery_ns` is the time of its delivery.
+pub struct Reported {
+    pub outcome: Outcome,
+    pub rng_latency: u64,
+    pub clock: Clock,
+    pub raised: u64,
+}
 
 // What queueing a delivery changes.
 pub struct Queued {
@@ -61,6 +69,38 @@ pub fn status_report(
 }
 
 // The jitter delays a report but never lets it overtake an earlier one.
+pub fn report_on(
+    log: &mut [u64],
+    raised: u64,
+    cfg: Config,
+    report: ReportRec,
+    rng_latency: u64,
+    clock: Clock,
+) -> Reported
+    ensures { λ r. ⌜ ((s : KernelState) → seen (reportedIn s r) (now (log .exit)) ≡ played (logAt (now (log .entry)) raised) (reported cfg report (withReport s «rng_latency» clock))) ⌝ }
+{
+    let arrival = delayed(cfg, rng_latency, report.ts_ns, cfg.ack_q);
+    let time = arrival.time;
+    let MaybeU64::Some(at) = time else {
+        return Reported {
+            outcome: Outcome::Halt(HaltReason::TimeOverflow),
+            rng_latency: arrival.rng,
+            clock,
+            raised,
+        };
+    };
+    let mut next = clock;
+    next.last_delivery_ns = max(at, clock.last_delivery_ns);
+    let n = emit(log, raised, KernelEvent::Report(report));
+    Reported {
+        outcome: Outcome::Ran,
+        rng_latency: arrival.rng,
+        clock: next,
+        raised: n,
+    }
+}
+
+// A report, told and on its way.
 pub fn queue_delivery(
     log: &mut [u64],
     raised: u64,
@@ -73,43 +113,39 @@ pub fn queue_delivery(
 ) -> Queued
     ensures { λ r. ⌜ ((s : KernelState) → seen (queuedIn s r) (now (log .exit)) ≡ played (logAt (now (log .entry)) raised) (queueDelivery cfg report fill (withQueue s «rng_latency» clock deliveries))) ⌝ }
 {
-    let arrival = delayed(cfg, rng_latency, report.ts_ns, cfg.ack_q);
-    let time = arrival.time;
-    let MaybeU64::Some(at) = time else {
+    let r = report_on(log, raised, cfg, report, rng_latency, clock);
+    let next = r.clock;
+    let o = r.outcome;
+    let Outcome::Ran = o else {
         return Queued {
-            outcome: Outcome::Halt(HaltReason::TimeOverflow),
-            rng_latency: arrival.rng,
-            clock,
+            outcome: o,
+            rng_latency: r.rng_latency,
+            clock: next,
             deliveries,
-            raised,
+            raised: r.raised,
         };
     };
-    let when = max(at, clock.last_delivery_ns);
-    let mut next = clock;
-    next.last_delivery_ns = when;
-    let n = emit(log, raised, KernelEvent::Report(report));
-    let delivery = Delivery {
-        at_ns: when,
+    let put = deliveries.push(Delivery {
+        at_ns: next.last_delivery_ns,
         report,
         fill,
-    };
-    let put = deliveries.push(delivery);
+    });
     if put.ok {
         let list = put.list;
         return Queued {
             outcome: Outcome::Ran,
-            rng_latency: arrival.rng,
+            rng_latency: r.rng_latency,
             clock: next,
             deliveries: list,
-            raised: n,
+            raised: r.raised,
         };
     }
     Queued {
         outcome: Outcome::Halt(HaltReason::CounterOverflow),
-        rng_latency: arrival.rng,
+        rng_latency: r.rng_latency,
         clock: next,
         deliveries,
-        raised: n,
+        raised: r.raised,
     }
 }
 

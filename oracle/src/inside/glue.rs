@@ -463,3 +463,27 @@ pub fn advance(with: &Prepared, s: &mut case::State, log: &mut Log) {
     super::step::advance(&with.cfg, &with.data, &mut kernel, log);
     state_out(s, &kernel);
 }
+
+/// A kernel that is kept between calls: its state is taken from a case's once.
+#[derive(Clone, Copy)]
+pub struct Kept(Kernel);
+
+impl Kept {
+    pub fn new(s: &case::State) -> Self {
+        Self(state_in(s))
+    }
+    pub fn advance(&mut self, with: &Prepared, log: &mut Log) {
+        super::step::advance(&with.cfg, &with.data, &mut self.0, log);
+    }
+    pub fn paused(&self) -> bool {
+        self.0.phase == Phase::AwaitDecision
+    }
+    /// Document 01's `pass` at a pause.
+    pub fn pass(&mut self) {
+        self.0.step += 1;
+        self.0.phase = self.0.resume;
+    }
+    pub fn position(&self) -> i64 {
+        self.0.gate.venue_pos_lots
+    }
+}

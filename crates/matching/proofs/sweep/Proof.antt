@@ -1,6 +1,6 @@
 -- `matching::sweep` meets its contract, by the laws of `MatchingWays`: from each look on, the rest of the pass gives what the whole gives. Assumes nothing.
 use mathlib.Core.List.{List}
-use mathlib.Core.Path.{_≡_, refl, _∙_}
+use mathlib.Core.Path.{_≡_, _∙_}
 use Prim.Native.Nat.{ℕ, _+_, _-_, _≤_}
 use Rattle.book.specs.declared.state.KernelState.{KernelState}
 use Rattle.rules.specs.Matching.{sweepFrom}

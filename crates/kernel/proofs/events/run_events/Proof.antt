@@ -1,14 +1,15 @@
 -- `kernel::events::run_events` meets its contract: the walk from here gives what the whole walk gives. Assumes nothing.
 use mathlib.Core.Path.{_≡_, refl, _∙_}
 use lib.ListN.{length}
-use Rattle.book.specs.With.{withClock, clockNowNs}
+use Rattle.book.specs.With.{withClock, withDeliveries, clockNowNs}
 use Rattle.book.specs.declared.state.KernelState.{KernelState}
 use Rattle.rules.specs.Events.{runEvents, weight}
 use Rattle.reports.specs.Log.{logAt, played}
 use Rattle.delivery.specs.Delivery.{handedIn}
 use Rattle.kernel.specs.Events.{lookedIn}
 use Rattle.kernel.specs.declared.events.Class.the-variants.{Venue, Delivery, Observation}
-use Rattle.kernel.proofs.EventsWays.{walk-done, walk-goes, walk-stops, walk-falls}
+use Rattle.kernel.proofs.EventsWays.{walk-done, walk-goes, walk-stops, walk-falls, walk-none}
+use Rattle.delivery.proofs.DeliveryWays.{next-handed}
 use borrow.Author.Needs.{needs}
 use Rattle.kernel.proofs.events.run_events.Statement.{statement}
 use Rattle.kernel.proofs.events.run_events.Tie as tie
@@ -41,26 +42,29 @@ run-events-spec =
     (λ c. search needs)
     (λ c κs. search needs)
     (λ c. search needs)
-    (λ c. let b = c .before .before .before .before .before .before .before in let d = b .before .before .before .before in let e = d .before .before .before in let f = e .before .before in let g = f .before .before in let h = g .before .before .before .before in let i = h .before .before in
-    let u : KernelState = withClock (h .loop .s) (clockNowNs (h .loop .s .clock) (e .max .result)) in
-    walk-falls (i .args .cfg) (i .args .until) (h .loop .s) (g .next-of .result) (g .next-of .ensures (h .loop .s)) _ _ _ _ (f .next .given .1) Delivery (e .max .result) (d .enum-told4 .given .1) (e .max .ensures)
-    (handedIn u (b .deliver-next .result)) _ (b .deliver-next .ensures u) (c .enum-told5 .given .1))
-    (λ c. let b = c .before .before .before .before .before .before .before in let d = b .before .before .before .before in let e = d .before .before .before in let f = e .before .before in let g = f .before .before in let h = g .before .before .before .before in let i = h .before .before in
-    let u : KernelState = withClock (h .loop .s) (clockNowNs (h .loop .s .clock) (e .max .result)) in (
-      b .deliver-next .kept .0 ∙ h .loop .inv .0,
-      walk-goes (i .args .cfg) (i .args .until) (h .loop .s) (g .next-of .result) (g .next-of .ensures (h .loop .s)) _ _ _ _ (f .next .given .1) Delivery (e .max .result) (d .enum-told4 .given .1) (e .max .ensures)
-          (handedIn u (b .deliver-next .result)) _ (b .deliver-next .ensures u) (c .enum-told5 .given .1) ∙ h .loop .inv .1,
+    (λ c. search needs)
+    (λ c κs. search needs)
+    (λ c. search needs)
+    (λ c. let b = c .before .before .before .before .before .before in let d = b .before .before .before .before .before .before in let e = d .before .before in let f = e .before .before in let g = f .before .before .before in let h = g .before .before in let i = h .before .before in let j = i .before .before .before .before in let k = j .before .before in
+    let u : KernelState = withClock (j .loop .s) (clockNowNs (j .loop .s .clock) (g .max .result)) in
+    walk-falls (k .args .cfg) (k .args .until) (j .loop .s) (i .next-of .result) (i .next-of .ensures (j .loop .s)) _ _ _ _ (h .next .given .1) Delivery (g .max .result) (f .enum-told4 .given .1) (g .max .ensures)
+    (handedIn (withDeliveries u (e .pop-front .result .list)) (b .hand .result)) _ (next-handed u (e .pop-front .result) (e .pop-front .ensures) _ _ (d .got .given .0 .0) (d .got .given .1) (b .hand .result) _ (b .hand .ensures)) (c .enum-told6 .given .1))
+    (λ c. let b = c .before .before .before .before .before .before in let d = b .before .before .before .before .before .before in let e = d .before .before in let f = e .before .before in let g = f .before .before .before in let h = g .before .before in let i = h .before .before in let j = i .before .before .before .before in let k = j .before .before in
+    let u : KernelState = withClock (j .loop .s) (clockNowNs (j .loop .s .clock) (g .max .result)) in (
+      b .hand .kept .0 ∙ j .loop .inv .0,
+      walk-goes (k .args .cfg) (k .args .until) (j .loop .s) (i .next-of .result) (i .next-of .ensures (j .loop .s)) _ _ _ _ (h .next .given .1) Delivery (g .max .result) (f .enum-told4 .given .1) (g .max .ensures)
+          (handedIn (withDeliveries u (e .pop-front .result .list)) (b .hand .result)) _ (next-handed u (e .pop-front .result) (e .pop-front .ensures) _ _ (d .got .given .0 .0) (d .got .given .1) (b .hand .result) _ (b .hand .ensures)) (c .enum-told6 .given .1) ∙ j .loop .inv .1,
     ))
     (λ c. search needs)
     (λ c κs. search needs)
     (λ c. search needs)
     (λ c. let b = c .before .before .before .before .before .before .before in let d = b .before .before .before .before in let e = d .before .before .before in let f = e .before .before in let g = f .before .before in let h = g .before .before .before .before in let i = h .before .before in
-    walk-falls (i .args .cfg) (i .args .until) (h .loop .s) (g .next-of .result) (g .next-of .ensures (h .loop .s)) _ _ _ _ (f .next .given .1) Observation (e .max .result) (d .enum-told6 .given .1) (e .max .ensures)
-    (lookedIn (h .loop .s) (e .max .result) (b .pop-observation .result)) _ (b .pop-observation .ensures (h .loop .s)) (c .enum-told7 .given .1))
+    walk-falls (i .args .cfg) (i .args .until) (h .loop .s) (g .next-of .result) (g .next-of .ensures (h .loop .s)) _ _ _ _ (f .next .given .1) Observation (e .max .result) (d .enum-told7 .given .1) (e .max .ensures)
+    (lookedIn (h .loop .s) (e .max .result) (b .pop-observation .result)) _ (b .pop-observation .ensures (h .loop .s)) (c .enum-told8 .given .1))
     (λ c. let b = c .before .before .before .before .before .before .before in let d = b .before .before .before .before in let e = d .before .before .before in let f = e .before .before in let g = f .before .before in let h = g .before .before .before .before in let i = h .before .before in (
       b .pop-observation .kept .0 ∙ h .loop .inv .0,
-      walk-goes (i .args .cfg) (i .args .until) (h .loop .s) (g .next-of .result) (g .next-of .ensures (h .loop .s)) _ _ _ _ (f .next .given .1) Observation (e .max .result) (d .enum-told6 .given .1) (e .max .ensures)
-          (lookedIn (h .loop .s) (e .max .result) (b .pop-observation .result)) _ (b .pop-observation .ensures (h .loop .s)) (c .enum-told7 .given .1) ∙ h .loop .inv .1,
+      walk-goes (i .args .cfg) (i .args .until) (h .loop .s) (g .next-of .result) (g .next-of .ensures (h .loop .s)) _ _ _ _ (f .next .given .1) Observation (e .max .result) (d .enum-told7 .given .1) (e .max .ensures)
+          (lookedIn (h .loop .s) (e .max .result) (b .pop-observation .result)) _ (b .pop-observation .ensures (h .loop .s)) (c .enum-told8 .given .1) ∙ h .loop .inv .1,
     ))
     (λ c. c .before .before .before .before .before .before .loop .inv .0)
     (λ c. let b = c .before .before .before .before .before .before in let d = b .before .before in
@@ -70,14 +74,17 @@ run-events-spec =
     (λ c. let b = c .before .before .before .before in let d = b .before .before in let e = d .before .before .before in let f = e .before .before in let g = f .before .before in let h = g .before .before .before .before in let i = h .before .before in
     walk-stops (i .args .cfg) (i .args .until) (h .loop .s) (g .next-of .result) (g .next-of .ensures (h .loop .s)) _ _ _ _ (f .next .given .1) Venue (e .max .result) (d .enum-told2 .given .1) (e .max .ensures)
     (b .apply-next-msg .result) _ (b .apply-next-msg .ensures) (c .match3 .keys2) ∙ h .loop .inv .1)
-    (λ c. let b = c .before .before .before .before .before .before in let d = b .before .before .before .before .before .before .before .before .before .before .before .before .before .before .before in
-    b .deliver-next .kept .0 ∙ d .loop .inv .0)
-    (λ c. let b = c .before .before .before .before .before .before in let d = b .before .before .before .before in let e = d .before .before .before in let f = e .before .before in let g = f .before .before in let h = g .before .before .before .before in let i = h .before .before in
-    let u : KernelState = withClock (h .loop .s) (clockNowNs (h .loop .s .clock) (e .max .result)) in
-    walk-stops (i .args .cfg) (i .args .until) (h .loop .s) (g .next-of .result) (g .next-of .ensures (h .loop .s)) _ _ _ _ (f .next .given .1) Delivery (e .max .result) (d .enum-told4 .given .1) (e .max .ensures)
-    (handedIn u (b .deliver-next .result)) _ (b .deliver-next .ensures u) (c .match4 .keys2) ∙ h .loop .inv .1)
+    (λ c. c .before .before .before .before .before .before .before .before .before .before .before .before .before .before .before .loop .inv .0)
+    (λ c. let e = c .before .before in let f = e .before .before in let g = f .before .before .before in let h = g .before .before in let i = h .before .before in let j = i .before .before .before .before in let k = j .before .before in
+    walk-none (k .args .cfg) (k .args .until) (j .loop .s) (i .next-of .result) (i .next-of .ensures (j .loop .s)) _ _ _ _ (h .next .given .1) (g .max .result) (f .enum-told4 .given .1) (g .max .ensures)
+    (e .pop-front .result) (e .pop-front .ensures) (c .enum-told5 .given .1) ∙ j .loop .inv .1)
+    (λ c. c .before .before .before .before .before .hand .kept .0 ∙ c .before .before .before .before .before .before .before .before .before .before .before .before .before .before .before .before .before .before .before .before .before .before .before .before .before .before .loop .inv .0)
+    (λ c. let b = c .before .before .before .before .before in let d = b .before .before .before .before .before .before in let e = d .before .before in let f = e .before .before in let g = f .before .before .before in let h = g .before .before in let i = h .before .before in let j = i .before .before .before .before in let k = j .before .before in
+    let u : KernelState = withClock (j .loop .s) (clockNowNs (j .loop .s .clock) (g .max .result)) in
+    walk-stops (k .args .cfg) (k .args .until) (j .loop .s) (i .next-of .result) (i .next-of .ensures (j .loop .s)) _ _ _ _ (h .next .given .1) Delivery (g .max .result) (f .enum-told4 .given .1) (g .max .ensures)
+    (handedIn (withDeliveries u (e .pop-front .result .list)) (b .hand .result)) _ (next-handed u (e .pop-front .result) (e .pop-front .ensures) _ _ (d .got .given .0 .0) (d .got .given .1) (b .hand .result) _ (b .hand .ensures)) (c .match5 .keys2) ∙ j .loop .inv .1)
     (λ c. let b = c .before .before .before .before .before .before in let d = b .before .before .before .before .before .before .before .before .before .before .before .before .before .before .before in
     b .pop-observation .kept .0 ∙ d .loop .inv .0)
     (λ c. let b = c .before .before .before .before .before .before in let d = b .before .before .before .before in let e = d .before .before .before in let f = e .before .before in let g = f .before .before in let h = g .before .before .before .before in let i = h .before .before in
-    walk-stops (i .args .cfg) (i .args .until) (h .loop .s) (g .next-of .result) (g .next-of .ensures (h .loop .s)) _ _ _ _ (f .next .given .1) Observation (e .max .result) (d .enum-told6 .given .1) (e .max .ensures)
-    (lookedIn (h .loop .s) (e .max .result) (b .pop-observation .result)) _ (b .pop-observation .ensures (h .loop .s)) (c .match5 .keys2) ∙ h .loop .inv .1))
+    walk-stops (i .args .cfg) (i .args .until) (h .loop .s) (g .next-of .result) (g .next-of .ensures (h .loop .s)) _ _ _ _ (f .next .given .1) Observation (e .max .result) (d .enum-told7 .given .1) (e .max .ensures)
+    (lookedIn (h .loop .s) (e .max .result) (b .pop-observation .result)) _ (b .pop-observation .ensures (h .loop .s)) (c .match6 .keys2) ∙ h .loop .inv .1))

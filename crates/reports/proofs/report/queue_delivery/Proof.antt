@@ -1,5 +1,5 @@
 -- `reports::report::queue_delivery` meets its contract, by the laws of `ReportWays`. Assumes nothing.
-use Rattle.reports.proofs.ReportWays.{queue-late, queue-in, queue-full}
+use Rattle.reports.proofs.ReportWays.{queue-stop, queue-in, queue-full}
 use borrow.Author.Needs.{needs}
 use Rattle.reports.proofs.report.queue_delivery.Statement.{statement}
 use Rattle.reports.proofs.report.queue_delivery.Tie as tie
@@ -10,11 +10,9 @@ queue-delivery-spec =
     (λ c κs. search needs)
     (λ c. search needs)
     (λ c. search needs)
-    (λ c. queue-late _ _ _ _ _ _ _ _ (c .before .before .delayed .result) (c .before .before .delayed .ensures) (c .enum-told .given .1))
-    (λ c κs. search needs)
-    (λ c κs. search needs)
+    (λ c. queue-stop _ _ _ _ _ _ _ _ _ (c .before .before .before .before .report-on .result) (c .before .before .before .before .report-on .ensures) (c .match .keys2))
     (λ c κs. search needs)
     (λ c. search needs)
-    (λ c. queue-in _ _ _ _ _ _ _ _ (c .before .before .before .before .before .before .before .before .before .before .before .delayed .result) (c .before .before .before .before .before .before .before .before .before .before .before .delayed .ensures) _ _ _ _ (c .before .before .push .result) (c .before .before .before .before .before .before .before .before .before .time .given .1) (c .before .before .before .before .before .before .before .max .ensures) (c .before .before .before .before .before .emit .ensures) (c .before .before .push .ensures) (c .before .if1 .taken))
+    (λ c. queue-in _ _ _ _ _ _ _ _ _ (c .before .before .before .before .before .before .before .before .report-on .result) (c .before .before .before .before .before .before .before .before .report-on .ensures) (c .before .before .before .enum-told .given .1) (c .before .before .push .result) (c .before .before .push .ensures) (c .before .if1 .taken))
     (λ c. search needs)
-    (λ c. queue-full _ _ _ _ _ _ _ _ (c .before .before .before .before .before .before .before .before .before .before .delayed .result) (c .before .before .before .before .before .before .before .before .before .before .delayed .ensures) _ _ _ _ (c .before .push .result) (c .before .before .before .before .before .before .before .before .time .given .1) (c .before .before .before .before .before .before .max .ensures) (c .before .before .before .before .emit .ensures) (c .before .push .ensures) (c .if1 .left)))
+    (λ c. queue-full _ _ _ _ _ _ _ _ _ (c .before .before .before .before .before .before .before .report-on .result) (c .before .before .before .before .before .before .before .report-on .ensures) (c .before .before .enum-told .given .1) (c .before .push .result) (c .before .push .ensures) (c .if1 .left)))

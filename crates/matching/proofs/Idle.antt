@@ -1,0 +1,100 @@
+-- A row that finds no live order to match or to sweep changes nothing. Assumes nothing.
+use Prim.Native.Nat.{ℕ, zero, suc, _+_, _≤_}
+use mathlib.Core.Bool.{Bool, true, false}
+use mathlib.Core.List.{List, [], _∷_}
+use mathlib.Core.Option.{Option, none, some}
+use mathlib.Core.Path.{_≡_, refl, sym, ap, _∙_}
+use native.Mathlib.Nat.{le-of-suc-le-suc}
+use native.Mathlib.Omega.{arith}
+use lib.Dec.{ltb, leb}
+use lib.ListN.{length, take, getD}
+use lib.Seq.{getD-take}
+use borrow.Author.Tests.{ltb-true, ltb-false}
+use Rattle.numbers.specs.Choice.{pick}
+use Rattle.lists.specs.Lists.{onSome, before, foundIn, live, entryAt}
+use Rattle.lists.proofs.Cases.{pick-case, some-case}
+use Rattle.book.specs.Entries.{blankOrder, isTerminal}
+use Rattle.book.specs.Rows.{ordersRow}
+use Rattle.book.specs.declared.VenueOrder.{VenueOrder}
+use Rattle.book.specs.declared.config.Config.{Config}
+use Rattle.book.specs.declared.config.KernelTick.{KernelTick}
+use Rattle.book.specs.declared.orders.Orders.{Orders}
+use Rattle.book.specs.declared.state.KernelState.{KernelState}
+use Rattle.rules.specs.Run.{Run, ranTo, andThen}
+use Rattle.rules.specs.Matching.{matches, matchAt, matchFrom, terminalAt, sweepFrom, sweep}
+use Rattle.matching.specs.Matching.{stirs, busy}
+
+-- ---- a search that finds none: no entry fits
+module _ {A : Type 0} (p : A → Bool) (d : A) (z : p d ≡ false) where
+  none-fits : (l : List A) → length l ≤ before p l → (i : ℕ) → p (getD l i d) ≡ false
+  unfolding before
+  none-fits [] h i = z
+  none-fits (x ∷ l) h zero = pick-case (λ (n : ℕ). suc (length l) ≤ n → p x ≡ false) (p x) 0 (suc (before p l)) (λ _ k. absurd (omega arith)) (λ e _. e) h
+  none-fits (x ∷ l) h (suc i) = pick-case (λ (n : ℕ). suc (length l) ≤ n → p (getD l i d) ≡ false) (p x) 0 (suc (before p l)) (λ _ k. absurd (omega arith)) (λ _ k. none-fits l (le-of-suc-le-suc k) i) h
+
+  none-found : (l : List A) → foundIn p l ≡ none → (i : ℕ) → p (getD l i d) ≡ false
+  unfolding foundIn
+  none-found l =
+      pick-case (λ (x : Option ℕ). x ≡ none → (i : ℕ) → p (getD l i d) ≡ false) (ltb (before p l) (length l)) _ _
+      (λ _ e. let y : _≡_ {A = ℕ} 0 1 = cc in absurd (omega arith))
+      (λ e _ i. none-fits l (ltb-false _ _ e) i)
+
+-- ---- no live order stirs
+module _ (row : KernelTick) (os : Orders) (h : busy row os ≡ false) where
+  found-none : foundIn (stirs row) (live 8 (ordersRow os)) ≡ none
+  unfolding busy
+  found-none = some-case (λ (b : Bool). b ≡ false → foundIn (stirs row) (live 8 (ordersRow os)) ≡ none) (foundIn (stirs row) (live 8 (ordersRow os))) (λ _. true) false
+      (λ _ _ e. let y : _≡_ {A = ℕ} 0 1 = cc in absurd (omega arith)) (λ e _. e) h
+
+  blank-still : stirs row blankOrder ≡ false
+  unfolding stirs matches pick
+  blank-still = refl
+
+  live-is : leb (os .count) 8 ≡ true → live 8 (ordersRow os) ≡ take (os .count) (os .slots)
+  unfolding live pick
+  live-is a = rw a
+
+  still-at : (i : ℕ) → onSome (entryAt 8 blankOrder i (ordersRow os)) (stirs row) false ≡ false
+  unfolding entryAt onSome
+  still-at i =
+      let P : Option VenueOrder → Type 0 = λ x. onSome x (stirs row) false ≡ false in
+      pick-case P (leb (os .count) 8) _ _ (λ a. pick-case P (ltb i (os .count)) _ _
+      (λ b. ap (stirs row) (sym (getD-take (os .count) (os .slots) i blankOrder (ltb-true _ _ b)) ∙ ap (λ (l : List VenueOrder). getD l i blankOrder) (sym (live-is a))) ∙ none-found (stirs row) blankOrder blank-still _ found-none i)
+      (λ _. refl)) (λ _. refl)
+
+  still : (i : ℕ) (o : VenueOrder) → entryAt 8 blankOrder i (ordersRow os) ≡ some o → stirs row o ≡ false
+  unfolding onSome
+  still i o e = sym (ap (λ (x : Option VenueOrder). onSome x (stirs row) false) e) ∙ still-at i
+
+module _ (row : KernelTick) (o : VenueOrder) (h : stirs row o ≡ false) where
+  unmatched : matches row o ≡ false
+  unfolding stirs
+  unmatched = pick-case (λ (b : Bool). b ≡ false → matches row o ≡ false) (isTerminal (o .state)) true (matches row o) (λ _ e. let y : _≡_ {A = ℕ} 0 1 = cc in absurd (omega arith)) (λ _ e. e) h
+
+  unswept : isTerminal (o .state) ≡ false
+  unfolding stirs
+  unswept = pick-case (λ (b : Bool). b ≡ false → isTerminal (o .state) ≡ false) (isTerminal (o .state)) true (matches row o) (λ _ e. let y : _≡_ {A = ℕ} 0 1 = cc in absurd (omega arith)) (λ e _. e) h
+
+-- ---- the pass and the sweep
+module _ (c : Config) (row : KernelTick) (s : KernelState) (h : busy row (s .orders) ≡ false) where
+  match-still : (i : ℕ) → matchAt c row i s ≡ ranTo s
+  unfolding matchAt pick
+  match-still i = some-case (λ (r : Run). r ≡ ranTo s) _ _ _ (λ o e. rw (unmatched row o (still row (s .orders) h i o e))) (λ _. refl)
+
+  terminal-none : (i : ℕ) → terminalAt i s ≡ false
+  unfolding terminalAt
+  terminal-none i = some-case (λ (b : Bool). b ≡ false) _ _ _ (λ o e. unswept row o (still row (s .orders) h i o e)) (λ _. refl)
+
+  match-idle : (k i : ℕ) → matchFrom c row k i s ≡ ranTo s
+  unfolding matchFrom andThen
+  match-idle zero i = refl
+  match-idle (suc k) i = rw (match-still i) (match-idle k (i + 1))
+
+  sweep-idle : (k i : ℕ) → sweepFrom k i s ≡ ranTo s
+  unfolding sweepFrom andThen pick
+  sweep-idle zero i = refl
+  sweep-idle (suc k) i = rw (terminal-none i) (sweep-idle k (i + 1))
+
+pub idle : (c : Config) (row : KernelTick) (s : KernelState) → busy row (s .orders) ≡ false → andThen (matchFrom c row (s .orders .count) 0 s) sweep ≡ ranTo s
+unfolding sweep andThen
+idle c row s h = rw (match-idle c row s h (s .orders .count) 0) (sweep-idle c row s h (s .orders .count) 0)

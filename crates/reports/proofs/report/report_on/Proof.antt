@@ -1,0 +1,17 @@
+-- `reports::report::report_on` meets its contract, by the laws of `ReportWays`. Assumes nothing.
+use Rattle.reports.proofs.ReportWays.{report-late, report-told}
+use borrow.Author.Needs.{needs}
+use Rattle.reports.proofs.report.report_on.Statement.{statement}
+use Rattle.reports.proofs.report.report_on.Tie as tie
+
+pub report-on-spec : {M : Type 1} → statement M
+report-on-spec =
+    tie.close (tie.spec
+    (λ c κs. search needs)
+    (λ c. search needs)
+    (λ c. search needs)
+    (λ c. report-late _ _ _ _ _ _ (c .before .before .delayed .result) (c .before .before .delayed .ensures) (c .enum-told .given .1))
+    (λ c κs. search needs)
+    (λ c κs. search needs)
+    (λ c. search needs)
+    (λ c. report-told _ _ _ _ _ _ (c .before .before .before .before .before .before .before .before .delayed .result) (c .before .before .before .before .before .before .before .before .delayed .ensures) _ _ _ _ (c .before .before .before .before .before .before .time .given .1) (c .before .before .before .before .max .ensures) (c .before .before .emit .ensures)))

@@ -1,6 +1,6 @@
 -- `compare::output::magnitude` is safe and ends. Assumes nothing.
 use borrow.Author.Needs.{needs}
-use Rattle.compare.proofs.SignedLaws.{below-fits, below-cast, below-more, above-cast}
+use Rattle.text.proofs.SignedLaws.{below-fits, below-cast, below-more, above-cast}
 use Rattle.compare.proofs.output.magnitude.Statement.{statement}
 use Rattle.compare.proofs.output.magnitude.Tie as tie
 

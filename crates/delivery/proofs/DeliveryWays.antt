@@ -3,7 +3,7 @@ use Prim.Native.Nat.{ℕ, zero, suc, _+_, _<_, _≤_}
 use mathlib.Core.Bool.{Bool, true, false, not}
 use mathlib.Core.List.{List, map}
 use mathlib.Core.Option.{some}
-use mathlib.Core.Path.{_≡_, refl, sym, ap, _∙_}
+use mathlib.Core.Path.{_≡_, sym, ap, _∙_}
 use native.Mathlib.Numerals.{add-one}
 use native.Mathlib.Omega.{arith}
 use lib.ListN.{length, take, drop, getD, drop-of-length-le}
@@ -21,7 +21,7 @@ use Rattle.lists.specs.Lists.{onSome, live, popped, emptied}
 use Rattle.lists.proofs.Loops.{at-place}
 use Rattle.lists.proofs.Sums.{take-case}
 use Rattle.book.specs.Entries.{blankMsg, blankDelivery, blankObs}
-use Rattle.book.specs.Rows.{msgsRow, observedRow, deliveriesRow, deliveriesOf, deliveriesTaken}
+use Rattle.book.specs.Rows.{msgsRow, observedRow, deliveriesRow, deliveriesTaken}
 use Rattle.book.specs.With.{withControl, withMsgs, withDeliveries, withObserved, withAgent, withAccount, withCounters, controlPhase, controlStatus, agentPos, agentDeliveredFills, agentDeliveredLocalRejects, countersEofDroppedMsgs, countersEofDroppedObs}
 use Rattle.book.specs.declared.Delivery.{Delivery}
 use Rattle.book.specs.declared.FillRec.{FillRec}
@@ -44,9 +44,9 @@ use Rattle.book.specs.declared.state.Phase.the-variants as phase
 use Rattle.book.specs.declared.state.Status.the-variants as status
 use Rattle.rules.specs.Run as rules
 use Rattle.rules.specs.Matching.{moved}
-use Rattle.rules.specs.Delivery.{countFill, moveAgent, isLocal, isRejected, countReject, onDelivery, deliverNext, deliverAll, droppedEvent, emptyQueues, closeData, endOfData}
+use Rattle.rules.specs.Delivery.{countFill, moveAgent, isLocal, isRejected, countReject, onDelivery, handed, deliverNext, deliverAll, droppedEvent, emptyQueues, closeData, endOfData}
 use Rattle.reports.specs.Log.{logAt, note, noted, Seen, played, seen}
-use Rattle.delivery.specs.Delivery.{agentIn, handed, withHanded, handedIn, withEmptied, emptiedIn}
+use Rattle.delivery.specs.Delivery.{agentIn, withHanded, handedIn, withEmptied, emptiedIn}
 use Rattle.reports.specs.declared.Outcome.the-variants.{Ran, Halt, Ended}
 use Rattle.delivery.specs.declared.AgentStep.{AgentStep}
 use Rattle.delivery.specs.declared.Emptied.{Emptied}
@@ -144,23 +144,18 @@ module _ (w : List ℕ) (n : ℕ) (d : Delivery) (agent : AgentView) (account : 
         (rw e (played-ran (logAt w1 m) (withHanded s (b .agent) (onDelivery (d .report) account)))))
 
 -- ---- the first delivery
--- what `deliverNext` does with the one that it took is `handed`
-delivers : (s : KernelState) → deliverNext s ≡ rules.taking (popped 24 blankDelivery (deliveriesRow (s .deliveries))) (λ d l. handed d (withDeliveries s (deliveriesOf l))) (rules.ranTo s)
-unfolding deliverNext
-delivers s = refl
-
 -- t is what the code has of taking it from the list of s
 module _ (s : KernelState) (t : DeliveriesTaken) (p : deliveriesTaken t ≡ popped 24 blankDelivery (deliveriesRow (s .deliveries))) where
   pub next-none : t .got ≡ delivery.None → deliverNext s ≡ rules.ranTo s
-  unfolding rules.taking onSome
-  next-none h = rw (delivers s, ← p, h)
+  unfolding deliverNext rules.taking onSome
+  next-none h = rw (← p, h)
 
   -- k and w1 are what handing it left
   pub next-handed : (w : List ℕ) (n : ℕ) (d : Delivery) → t .got ≡ delivery.Some d → (k : Handed) (w1 : List ℕ)
       → ((u : KernelState) → seen (handedIn u k) w1 ≡ played (logAt w n) (handed d (withHanded u (s .agent) (s .account))))
       → seen (handedIn (withDeliveries s (t .list)) k) w1 ≡ played (logAt w n) (deliverNext s)
-  unfolding rules.taking onSome
-  next-handed w n d h k w1 e = rw (delivers s, ← p, h) (e (withDeliveries s (t .list)))
+  unfolding deliverNext rules.taking onSome
+  next-handed w n d h k w1 e = rw (← p, h) (e (withDeliveries s (t .list)))
 
 -- ---- deliver_all
 pub one-less : (d : Deliveries) (t : DeliveriesTaken) → deliveriesTaken t ≡ popped 24 blankDelivery (deliveriesRow d) → (y : Delivery) → t .got ≡ delivery.Some y → d .count ≡ suc (t .list .count)

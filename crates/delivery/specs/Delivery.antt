@@ -1,26 +1,14 @@
--- A delivery that has left the list, and the parts of the state that deliveries change.
+-- The parts of the state that deliveries change.
 use Prim.Native.Nat.{ℕ}
 use Rattle.book.specs.With.{withDeliveries, withAgent, withAccount}
-use Rattle.book.specs.declared.Delivery.{Delivery}
 use Rattle.book.specs.declared.account.AgentAccount.{AgentAccount}
 use Rattle.book.specs.declared.deliveries.Deliveries.{Deliveries}
 use Rattle.book.specs.declared.state.AgentView.{AgentView}
-use Rattle.book.specs.declared.state.KernelEvent.the-variants.{Delivered}
 use Rattle.book.specs.declared.state.KernelState.{KernelState}
-use Rattle.rules.specs.Run.{Run, ranTo, raised, andThen}
-use Rattle.rules.specs.Delivery.{moveAgent, countReject, onDelivery}
 use Rattle.reports.specs.declared.Step.{Step}
 use Rattle.delivery.specs.declared.AgentStep.{AgentStep}
 use Rattle.delivery.specs.declared.Emptied.{Emptied}
 use Rattle.delivery.specs.declared.Handed.{Handed}
-
--- what `deliverNext` does with the delivery that it took, which s has no more
-abbrev pub handed : Delivery → KernelState → Run
-handed d s =
-    andThen (raised (Delivered (d .report)) s) λ t.
-    andThen (moveAgent (d .fill) t) λ u.
-    andThen (countReject (d .report) u) λ v.
-    ranTo (withAccount v (onDelivery (d .report) (v .account)))
 
 abbrev pub agentIn : KernelState → ℕ → AgentStep → Step
 agentIn s n a = record { outcome = a .outcome; state = withAgent s (a .agent); raised = n }

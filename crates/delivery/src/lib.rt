@@ -31,9 +31,9 @@ ghost use Rattle.lists.specs.Lists.{live};
 ghost use Rattle.book.specs.Rows.{msgsRow};
 ghost use Rattle.book.specs.With.{withAgent};
 ghost use Rattle.book.specs.declared.state.KernelState.{KernelState};
-ghost use Rattle.rules.specs.Delivery.{moveAgent, countReject, isRejected, isLocal, deliverAll, droppedBy, droppedEvent, closeData, endOfData};
+ghost use Rattle.rules.specs.Delivery.{moveAgent, countReject, isRejected, isLocal, handed, deliverAll, droppedBy, droppedEvent, closeData, endOfData};
 ghost use Rattle.reports.specs.Log.{logAt, played, seen, noted};
-ghost use Rattle.delivery.specs.Delivery.{agentIn, handed, handedIn, withHanded, emptiedIn, withEmptied};
+ghost use Rattle.delivery.specs.Delivery.{agentIn, handedIn, withHanded, emptiedIn, withEmptied};
 
 // What a delivery does to the agent.
 pub struct AgentStep {

@@ -17,7 +17,6 @@ use Rattle.lists.proofs.Cases.{some-case, pick-case}
 use Rattle.book.specs.Entries.{blankObs}
 use Rattle.book.specs.Rows.{observedRow, observedPut}
 use Rattle.book.specs.With.{withControl, withClock, withGate, clockNowNs, clockLastObservedNs, controlPhase}
-use Rattle.book.specs.declared.VenueMsg.{VenueMsg}
 use Rattle.book.specs.declared.config.Config.{Config}
 use Rattle.book.specs.declared.config.KernelTick.{KernelTick}
 use Rattle.book.specs.declared.observed.Observed.{Observed}
@@ -25,7 +24,6 @@ use Rattle.book.specs.declared.observed.ObservedPut.{ObservedPut}
 use Rattle.book.specs.declared.state.Clock.{Clock}
 use Rattle.book.specs.declared.state.Control.{Control}
 use Rattle.book.specs.declared.state.GateState.{GateState}
-use Rattle.book.specs.declared.state.HaltReason.{HaltReason}
 use Rattle.book.specs.declared.state.HaltReason.the-variants.{LedgerOverflow, TimeOverflow, CounterOverflow}
 use Rattle.book.specs.declared.state.KernelEvent.the-variants.{RowEnd}
 use Rattle.book.specs.declared.state.KernelState.{KernelState}
@@ -157,55 +155,40 @@ module _ (cfg : Config) (rows : List ℕ) (c : Control) where
     next-on k e s = rw (lt-ltb (c .cursor) (length rows / 5) h, lt-leb (cfg .«s_max») (c .step) k, e)
 
 -- ---- run_phases: steps that never run on
-abbrev Stays : rules.Run → Type 0
-Stays r = r .outcome ≡ rules.ran → ⊥
-
-left-stays : rules.left ≡ rules.ran → ⊥
-left-stays e = let z : _≡_ {A = ℕ} 0 1 = cc in absurd (omega arith)
-
-halt-stays : {h : HaltReason} → rules.halt h ≡ rules.ran → ⊥
-halt-stays e = let z : _≡_ {A = ℕ} 0 1 = cc in absurd (omega arith)
-
-ended-stays : {ms : List VenueMsg} → rules.ended ms ≡ rules.ran → ⊥
-ended-stays e = let z : _≡_ {A = ℕ} 0 1 = cc in absurd (omega arith)
-
-not-ran : (o : rules.Outcome) → (o ≡ rules.ran → ⊥) → Stopped (told o)
-not-ran rules.ran h = absurd (h refl)
-not-ran rules.left h = inl refl
-not-ran (rules.halt r) h = inr (inl refl)
-not-ran (rules.ended ms) h = inr (inr refl)
+abbrev Stops : rules.Run → Type 0
+Stops r = Stopped (told (r .outcome))
 
 -- end of data ends the run, or halts
-close-stays : (s : KernelState) → Stays (closeData s)
+close-stops : (s : KernelState) → Stops (closeData s)
 unfolding closeData
-close-stays s = word-case Stays _ _ _ (λ m _. word-case Stays _ _ _ (λ n _. ended-stays) (λ _. halt-stays)) (λ _. halt-stays)
+close-stops s = word-case Stops _ _ _ (λ m _. word-case Stops _ _ _ (λ n _. inr (inr refl)) (λ _. inr (inl refl))) (λ _. inr (inl refl))
 
-then-stays : (r : rules.Run) (k : KernelState → rules.Run) → ((s : KernelState) → Stays (k s)) → Stays (rules.andThen r k)
+then-stops : (r : rules.Run) (k : KernelState → rules.Run) → ((s : KernelState) → Stops (k s)) → Stops (rules.andThen r k)
 unfolding rules.andThen
-then-stays r k h = go (r .outcome)
+then-stops r k h = go (r .outcome)
   where
-    go : (o : rules.Outcome) → Stays (rules.onRan o (record { outcome = o; state = r .state; events = r .events }) (rules.after (r .events) (k (r .state))))
+    go : (o : rules.Outcome) → Stops (rules.onRan o (record { outcome = o; state = r .state; events = r .events }) (rules.after (r .events) (k (r .state))))
     go rules.ran = h (r .state)
-    go rules.left = left-stays
-    go (rules.halt x) = halt-stays
-    go (rules.ended ms) = ended-stays
+    go rules.left = inl refl
+    go (rules.halt x) = inr (inl refl)
+    go (rules.ended ms) = inr (inr refl)
 
 pub end-stops : (l : Log) (s : KernelState) (a : Step) (w : List ℕ) → seen a w ≡ played l (endOfData s) → Stopped (a .outcome)
 unfolding played endOfData
-end-stops l s a w e = subst Stopped (sym (ap (λ (x : Seen). x .outcome) e)) (not-ran (endOfData s .outcome) (then-stays _ closeData close-stays))
+end-stops l s a w e = subst Stopped (sym (ap (λ (x : Seen). x .outcome) e)) (then-stops _ closeData close-stops)
 
 -- an observation that is next is there, so that it leaves the walk
-pop-stays : (cfg : Config) (until : ℕ) (s : KernelState) (t : ℕ) → eventTurn cfg until s ≡ rules.again (popObservation cfg (clockTo t s)) → Stays (popObservation cfg (clockTo t s))
+pop-stops : (cfg : Config) (until : ℕ) (s : KernelState) (t : ℕ) → eventTurn cfg until s ≡ rules.again (popObservation cfg (clockTo t s)) → Stops (popObservation cfg (clockTo t s))
 unfolding popObservation rules.taking weight
-pop-stays cfg until s t e = some-case (λ (r : rules.Run). popObservation cfg (clockTo t s) ≡ r → Stays r) (popped 16 blankObs (observedRow (s .observed)) .got) _ (rules.ranTo (clockTo t s))
-    (λ o _ _. pick-case Stays _ _ _ (λ _. left-stays) (λ _. left-stays))
-    (λ _ q _. let z : weight (clockTo t s) < weight s = subst (λ (r : rules.Run). weight (r .state) < weight s) q (event-falls cfg until s (popObservation cfg (clockTo t s)) e (ap (λ (r : rules.Run). r .outcome) q)) in absurd (omega (arith, z)))
+pop-stops cfg until s t e = some-case (λ (r : rules.Run). popObservation cfg (clockTo t s) ≡ r → Stops r) (popped 16 blankObs (observedRow (s .observed)) .got) _ (rules.ranTo (clockTo t s))
+    (λ o _ _. pick-case Stops _ _ _ (λ _. inl refl) (λ _. inl refl))
+    (λ _ q. let z : weight (clockTo t s) < weight s = subst (λ (r : rules.Run). weight (r .state) < weight s) q (event-falls cfg until s (popObservation cfg (clockTo t s)) e (ap (λ (r : rules.Run). r .outcome) q)) in absurd (omega (arith, z)))
     refl
 
 pub obs-stops : (cfg : Config) (until : ℕ) (s : KernelState) (x : Next) → nextTold x ≡ nextOf until s → (k : Class) (t : ℕ) → x ≡ At k t → k ≡ Observation
     → (now : ℕ) → now ≡ max t (s .clock .«now_ns») → (l : Log) (a : Step) (w : List ℕ) → seen a w ≡ played l (popObservation cfg (clockAt now s)) → Stopped (a .outcome)
 unfolding played eventTurn
-obs-stops cfg until s x e k t h j now m l a w g = subst Stopped (sym left-is) (not-ran _ (pop-stays cfg until s t (rw (← e, h, j))))
+obs-stops cfg until s x e k t h j now m l a w g = subst Stopped (sym left-is) (pop-stops cfg until s t (rw (← e, h, j)))
   where
     left-is : a .outcome ≡ told (popObservation cfg (clockTo t s) .outcome)
     left-is = rw (← m) (ap (λ (y : Seen). y .outcome) g)

@@ -46,18 +46,18 @@ use Rattle.models.specs.Told.{gateTold}
 use Rattle.models.specs.declared.gate.Gated.{Gated}
 use Rattle.models.specs.declared.gate.Gated.the-variants.{Fail, Kept}
 use Rattle.rules.specs.Run as rules
-use Rattle.rules.specs.Report.{stamp, pushDelivery, queueDelivery}
+use Rattle.rules.specs.Report.{stamp, pushDelivery, reportAt, reported, queueDelivery}
 use Rattle.rules.specs.Messages.{removeExpiry, await, awaitMarked}
-use Rattle.rules.specs.Matching.{matches, queueFillLots, fillLots, gateFilled, filledBy, fillRecord, fillReport, fillTold, fillAt, matchOrder, matchAt, matchFrom, leave, terminalAt, sweepFrom, marked}
+use Rattle.rules.specs.Matching.{matches, queueFillLots, fillLots, gateFilled, filledBy, recordAt, fillKind, fillRecord, fillReport, fillCounted, fillEvent, fillAt, matchOrder, matchAt, matchFrom, leave, terminalAt, sweepFrom, marked}
 use Rattle.rules.proofs.HeldMatching.{lots-most}
 use Rattle.reports.specs.Log.{logAt, note, noted, Seen, played, seen}
-use Rattle.reports.specs.Report.{reportAt, reported, withReport, reportedIn}
+use Rattle.reports.specs.Report.{withReport, reportedIn}
 use Rattle.reports.specs.declared.Outcome.the-variants.{Ran, Halt}
 use Rattle.reports.specs.declared.Step.{Step}
 use Rattle.reports.specs.declared.report.Reported.{Reported}
-use Rattle.reports.proofs.ReportWays.{push-of, queue-parts}
-use Rattle.reports.proofs.Then.{played-ran, Stopped, then-ran, then-stop, then-on, Parts, halt-parts, word-parts, some-parts, pick-parts, stamp-parts, fits-none, fits-some}
-use Rattle.matching.specs.Matching.{recordAt, fillCounted, fillEvent, withVenue, filledIn, fillKind, withMatched, matchedIn, stirs, busy, Fills, none-there, fills, fails, lotsTold, lotsAt, withSwept, sweptIn}
+use Rattle.reports.proofs.ReportWays.{push-of}
+use Rattle.reports.proofs.Then.{played-ran, Stopped, then-ran, then-stop, then-on, fits-none, fits-some}
+use Rattle.matching.specs.Matching.{withVenue, filledIn, withMatched, matchedIn, stirs, busy, Fills, none-there, fills, fails, lotsTold, lotsAt, withSwept, sweptIn}
 use Rattle.matching.specs.declared.Filled.{Filled}
 use Rattle.matching.specs.declared.Lots.{Lots}
 use Rattle.matching.specs.declared.Lots.the-variants as lots
@@ -136,26 +136,17 @@ module _ (w : List ℕ) (raised : ℕ) (o : VenueOrder) (n : ℕ) (v : Venue)
                 raised = m;
               })) w1
               ≡ played (logAt w raised) (fillEvent o n (withVenue s v))
-          unfolding fillEvent fillCounted fillRecord stamp onWord onSome pick rules.andThen played noted
+          unfolding fillEvent fillCounted stamp onWord onSome pick rules.andThen played noted
           fill-told y m w1 rec c er em s = rw (← e, h, ← eg, g, fits-some (o .price * 2) x (sym ed ∙ d), ← ex, j, ← ec, c, ← er, ← em)
 
--- ---- a fill is its event, then the order stored, its report and the delivery
+-- ---- behind the event: the order stored, the report and the delivery
 -- the state with the filled order stored
 abbrev stored : ℕ → VenueOrder → KernelState → KernelState
 stored i o u = withOrders u (ordersOf (storeAt 8 i o (ordersRow (u .orders)) .list))
 
-module _ (c : Config) (i : ℕ) (o : VenueOrder) (n : ℕ) (s : KernelState) where
-  -- s is the state at the stamp
-  abbrev telling : KernelState → rules.Run
-  telling u = queueDelivery c (fillReport s o n) (fill.Some (fillRecord s o n)) (stored i (filledBy n o) u)
-
-  counted-parts : (u : KernelState) → Parts telling (fillTold c i o n s u) (fillCounted o n s u)
-  unfolding fillTold fillCounted
-  counted-parts u = word-parts _ (λ k. unfold rules.andThen in record { is = refl }) (halt-parts _ _)
-
-  fill-parts : Parts telling (fillAt c i o n s) (fillEvent o n s)
-  unfolding fillAt fillEvent
-  fill-parts = stamp-parts s (λ t. some-parts _ (λ g. pick-parts _ (word-parts _ (λ e. counted-parts _) (halt-parts _ _)) (halt-parts _ _)) (halt-parts _ _))
+-- s is the state at the stamp
+abbrev telling : Config → ℕ → VenueOrder → ℕ → KernelState → KernelState → rules.Run
+telling c i o n s u = queueDelivery c (fillReport s o n) (fill.Some (fillRecord s o n)) (stored i (filledBy n o) u)
 
 -- ---- what a row fills at a place
 module _ (mode : FillMode) (row : KernelTick) (os : Orders) (i : ℕ) (got : MaybeOrder) (e : orderIn got ≡ entryAt 8 blankOrder i (ordersRow os)) where
@@ -307,9 +298,10 @@ module _ (w : List ℕ) (raised : ℕ) (cfg : Config) (row : KernelTick) (i : �
 
     pub match-stop : Stopped (a .outcome) → (s : KernelState)
         → seen (matchedIn s (record { outcome = a .outcome; venue = a .venue; orders = os; deliveries = ds; raised = a .raised })) w1 ≡ played (logAt w raised) (matchFrom cfg row q i (start s))
+    unfolding fillAt
     match-stop m s =
         stops s (filledIn (withDeliveries (withOrders s os) ds) a) w1 m
-        (rw (fill-parts cfg i o n (start s) .is) (then-stop (logAt w raised) _ (telling cfg i o n (start s)) (filledIn (withDeliveries (withOrders s os) ds) a) w1 (ea (withDeliveries (withOrders s os) ds)) m))
+        (then-stop (logAt w raised) _ (telling cfg i o n (start s)) (filledIn (withDeliveries (withOrders s os) ds) a) w1 (ea (withDeliveries (withOrders s os) ds)) m)
 
     -- the fill ran: the order is stored, b is what its report left
     module _ (k : a .outcome ≡ Ran) (filled : VenueOrder) (ef : filled ≡ filledBy n o) (kind : ExecKind) (ek : kind ≡ fillKind n o)
@@ -330,16 +322,16 @@ module _ (w : List ℕ) (raised : ℕ) (cfg : Config) (row : KernelTick) (i : �
       held s = withMatched s (a .venue) store ds
 
       telling-is : (s : KernelState) → telling cfg i o n (start s) (withMatched s (a .venue) os ds) ≡ rules.andThen (reported cfg report (held s)) (push-of report (fill.Some rec))
-      unfolding fillReport fillRecord
-      telling-is s = rw (← ef, ← ek, ← er, ← ec, ← (store-in 8 (ordersRow os) filled i (t .0) (t .1))) (queue-parts cfg report (fill.Some rec) (held s) .is)
+      unfolding queueDelivery fillReport
+      telling-is s = rw (← ef, ← ek, ← er, ← ec, ← (store-in 8 (ordersRow os) filled i (t .0) (t .1)))
 
       -- the rest of the fill is the report, then the push
       reports : (s : KernelState) {x : Seen} → x ≡ played (logAt w1 (a .raised)) (rules.andThen (reported cfg report (held s)) (push-of report (fill.Some rec)))
           → x ≡ played (logAt w raised) (fillAt cfg i o n (start s))
+      unfolding fillAt
       reports s p =
-          rw (fill-parts cfg i o n (start s) .is)
-          (then-on (logAt w raised) _ (telling cfg i o n (start s)) (filledIn (withDeliveries (withOrders s os) ds) a) w1 (ea (withDeliveries (withOrders s os) ds)) k
-          (p ∙ ap (played (logAt w1 (a .raised))) (sym (telling-is s))))
+          then-on (logAt w raised) _ (telling cfg i o n (start s)) (filledIn (withDeliveries (withOrders s os) ds) a) w1 (ea (withDeliveries (withOrders s os) ds)) k
+          (p ∙ ap (played (logAt w1 (a .raised))) (sym (telling-is s)))
 
       pub match-unreported : Stopped (b .outcome) → (s : KernelState)
           → seen (matchedIn s (record { outcome = b .outcome; venue = venue; orders = store; deliveries = ds; raised = b .raised })) w2 ≡ played (logAt w raised) (matchFrom cfg row q i (start s))

@@ -1,28 +1,21 @@
 -- The parts of the state that a match pass and the sweep after it change.
-use Prim.Native.Nat.{ℕ, _+_, _*_}
+use Prim.Native.Nat.{ℕ}
 use mathlib.Core.Bool.{Bool, true, false}
 use lib.Dec.{eqb}
 use Rattle.numbers.specs.Choice.{pick}
-use Rattle.numbers.specs.Words.{fits, fitting, onWord}
+use Rattle.numbers.specs.Words.{onWord}
 use Rattle.lists.specs.Lists.{onSome, entryAt, foundIn, live}
-use Rattle.book.specs.Entries.{blankOrder, remaining, isTerminal}
+use Rattle.book.specs.Entries.{blankOrder, isTerminal}
 use Rattle.book.specs.Rows.{ordersRow}
-use Rattle.book.specs.With.{withClock, withRngLatency, withSeqs, withOrders, withMsgs, withAwaiting, withGate, withDeliveries, withCounters, seqsNextExecId, countersVenueFills}
-use Rattle.book.specs.declared.ExecKind.{ExecKind}
-use Rattle.book.specs.declared.ExecKind.the-variants as exec
-use Rattle.book.specs.declared.FillRec.{FillRec}
+use Rattle.book.specs.With.{withClock, withRngLatency, withSeqs, withOrders, withMsgs, withAwaiting, withGate, withDeliveries, withCounters}
 use Rattle.book.specs.declared.VenueOrder.{VenueOrder}
 use Rattle.book.specs.declared.config.FillMode.{FillMode}
 use Rattle.book.specs.declared.config.KernelTick.{KernelTick}
 use Rattle.book.specs.declared.deliveries.Deliveries.{Deliveries}
 use Rattle.book.specs.declared.msgs.Msgs.{Msgs}
 use Rattle.book.specs.declared.orders.Orders.{Orders}
-use Rattle.book.specs.declared.state.HaltReason.the-variants.{LedgerOverflow, CounterOverflow}
-use Rattle.book.specs.declared.state.KernelEvent.the-variants.{Fill}
 use Rattle.book.specs.declared.state.KernelState.{KernelState}
-use Rattle.rules.specs.Run.{Run, haltAt, raised, andThen}
-use Rattle.rules.specs.Report.{stamp}
-use Rattle.rules.specs.Matching.{matches, fillLots, gateFilled, fillRecord}
+use Rattle.rules.specs.Matching.{matches, fillLots}
 use Rattle.reports.specs.declared.Step.{Step}
 use Rattle.matching.specs.declared.Venue.{Venue}
 use Rattle.matching.specs.declared.Filled.{Filled}
@@ -31,38 +24,12 @@ use Rattle.matching.specs.declared.Lots.{Lots}
 use Rattle.matching.specs.declared.Lots.the-variants as lots
 use Rattle.matching.specs.declared.Swept.{Swept}
 
--- ---- a fill up to its event
--- the record of a fill, by the numbers at its stamp
-abbrev pub recordAt : ℕ → ℕ → VenueOrder → ℕ → FillRec
-recordAt now exec o n = record { «ts_ns» = now; «exec_id» = exec; «order_id» = o .id; side = o .side; price = o .price; qty = n }
-
--- `fillTold` of the rules up to the fill event
-unfoldable pub fillCounted : VenueOrder → ℕ → KernelState → KernelState → Run
-fillCounted o n s u =
-    onWord (fitting (u .counters .«venue_fills» + 1))
-    (λ k. raised (Fill (fillRecord s o n)) (withCounters u (countersVenueFills (u .counters) k)))
-    (haltAt CounterOverflow u)
-
--- `fillAt` of the rules up to the fill event
-unfoldable pub fillEvent : VenueOrder → ℕ → KernelState → Run
-fillEvent o n s =
-    andThen (stamp s) λ t.
-    onSome (gateFilled (o .side) n (t .gate))
-    (λ g. pick (fits (o .price * 2))
-    (onWord (fitting (t .seqs .«next_exec_id» + 1))
-    (λ e. fillCounted o n s (withSeqs (withGate t g) (seqsNextExecId (t .seqs) e)))
-    (haltAt CounterOverflow t))
-    (haltAt LedgerOverflow t))
-    (haltAt CounterOverflow t)
-
+-- ---- a fill
 abbrev pub withVenue : KernelState → Venue → KernelState
 withVenue s v = withCounters (withGate (withSeqs (withClock (withRngLatency s (v .«rng_latency»)) (v .clock)) (v .seqs)) (v .gate)) (v .counters)
 
 abbrev pub filledIn : KernelState → Filled → Step
 filledIn s f = record { outcome = f .outcome; state = withVenue s (f .venue); raised = f .raised }
-
-abbrev pub fillKind : ℕ → VenueOrder → ExecKind
-fillKind n o = pick (eqb n (remaining o)) exec.Fill exec.PartialFill
 
 -- ---- the pass
 abbrev pub withMatched : KernelState → Venue → Orders → Deliveries → KernelState

@@ -37,9 +37,9 @@ ghost use Rattle.book.specs.Entries.{remaining};
 ghost use Rattle.book.specs.declared.state.KernelState.{KernelState};
 ghost use Rattle.book.specs.With.{withOrders};
 ghost use Rattle.rules.specs.Run.{haltAt};
-ghost use Rattle.rules.specs.Matching.{filledBy, matchFrom, leave, terminalAt, sweepFrom, marked};
+ghost use Rattle.rules.specs.Matching.{filledBy, recordAt, fillKind, fillEvent, matchFrom, leave, terminalAt, sweepFrom, marked};
 ghost use Rattle.reports.specs.Log.{logAt, played, seen};
-ghost use Rattle.matching.specs.Matching.{fillKind, recordAt, fillEvent, withVenue, filledIn, lotsAt, lotsTold, withMatched, matchedIn, stirs, busy, sweptIn, withSwept};
+ghost use Rattle.matching.specs.Matching.{withVenue, filledIn, lotsAt, lotsTold, withMatched, matchedIn, stirs, busy, sweptIn, withSwept};
 
 // What a fill changes of the state beside the two lists.
 pub struct Venue {

@@ -20,10 +20,9 @@ use Rattle.book.specs.declared.config.Config.{Config}
 use Rattle.book.specs.declared.state.HaltReason.the-variants.{TimeOverflow, CounterOverflow}
 use Rattle.book.specs.declared.state.KernelState.{KernelState}
 use Rattle.models.proofs.Numbers.{above}
-use Rattle.rules.specs.Report.{queueDelivery}
+use Rattle.rules.specs.Report.{reportAt, queueDelivery}
 use Rattle.rules.specs.Messages.{release, awaitMarked, book, valid, scheduleExpiry, accept, reject, activate, activation}
 use Rattle.reports.specs.Log.{logAt, noted, Seen, played, seen, stampedAt}
-use Rattle.reports.specs.Report.{reportAt}
 use Rattle.reports.specs.declared.Outcome.the-variants.{Ran}
 use Rattle.reports.specs.declared.Step.{Step}
 use Rattle.reports.proofs.Then.{Stopped, then-stop, then-on, stamp-on, stamp-full, sent}

@@ -34,10 +34,9 @@ use Rattle.book.specs.declared.state.HaltReason.the-variants.{CounterOverflow}
 use Rattle.book.specs.declared.state.KernelEvent.the-variants.{Expired}
 use Rattle.book.specs.declared.state.KernelState.{KernelState}
 use Rattle.rules.specs.Run as rules
-use Rattle.rules.specs.Report.{queueDelivery}
+use Rattle.rules.specs.Report.{reportAt, queueDelivery}
 use Rattle.rules.specs.Messages.{release, awaitMarked, removeExpiry, activation, cancelBooked, onActivation, cancelPending, cancelAwaiting, cancel, expireBooked, expire, applyNextMsg}
 use Rattle.reports.specs.Log.{logAt, note, Seen, played, seen, stampedAt}
-use Rattle.reports.specs.Report.{reportAt}
 use Rattle.reports.specs.declared.Outcome.the-variants.{Ran}
 use Rattle.reports.specs.declared.Step.{Step}
 use Rattle.reports.proofs.Then.{Stopped, played-ran, then-stop, then-on, raise-on, stamp-on, stamp-full, sent, take-on, take-none}

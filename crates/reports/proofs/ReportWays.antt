@@ -2,7 +2,7 @@
 use Prim.Native.Nat.{ℕ, max}
 use mathlib.Core.Bool.{true, false}
 use mathlib.Core.List.{List}
-use mathlib.Core.Path.{_≡_, refl}
+use mathlib.Core.Path.{_≡_}
 use Rattle.numbers.specs.Choice.{pick}
 use Rattle.numbers.specs.Words.{onWord}
 use Rattle.numbers.specs.declared.MaybeU64.the-variants.{None, Some}
@@ -21,12 +21,12 @@ use Rattle.book.specs.declared.state.KernelState.{KernelState}
 use Rattle.models.specs.Told.{delayTold}
 use Rattle.models.specs.declared.latency.Arrival.{Arrival}
 use Rattle.rules.specs.Run as rules
-use Rattle.rules.specs.Report.{delay, delayed, pushDelivery, queueDelivery}
+use Rattle.rules.specs.Report.{delay, delayed, pushDelivery, reported, queueDelivery}
 use Rattle.reports.specs.Log.{logAt, note, noted, Seen, played, seen}
-use Rattle.reports.specs.Report.{reported, withReport, reportedIn, withQueue, queuedIn}
+use Rattle.reports.specs.Report.{withReport, reportedIn, withQueue, queuedIn}
 use Rattle.reports.specs.declared.Outcome.the-variants.{Ran, Halt}
 use Rattle.reports.specs.declared.report.Reported.{Reported}
-use Rattle.reports.proofs.Then.{Stopped, then-stop, then-on, Parts, halt-parts, word-parts}
+use Rattle.reports.proofs.Then.{Stopped, then-stop, then-on}
 
 -- ---- a report that is told
 module _ (w : List ℕ) (raised : ℕ) (cfg : Config) (report : ReportRec) (rng : ℕ) (clock : Clock)
@@ -48,28 +48,21 @@ module _ (w : List ℕ) (raised : ℕ) (cfg : Config) (report : ReportRec) (rng 
 abbrev pub push-of : ReportRec → MaybeFill → KernelState → rules.Run
 push-of r f t = pushDelivery (record { «at_ns» = t .clock .«last_delivery_ns»; report = r; fill = f }) t
 
--- `queueDelivery` is `reported`, then the push
-pub queue-parts : (c : Config) (r : ReportRec) (f : MaybeFill) (s : KernelState) → Parts (push-of r f) (queueDelivery c r f s) (reported c r s)
-unfolding queueDelivery reported delayed
-queue-parts c r f s = word-parts _ (λ at. unfold rules.andThen in record { is = refl }) (halt-parts _ _)
-
 module _ (w w1 : List ℕ) (raised : ℕ) (cfg : Config) (report : ReportRec) (fill : MaybeFill) (rng : ℕ) (clock : Clock) (deliveries : Deliveries)
     (a : Reported) (e : (s : KernelState) → seen (reportedIn s a) w1 ≡ played (logAt w raised) (reported cfg report (withReport s rng clock))) where
   pub queue-stop : Stopped (a .outcome) → (s : KernelState)
       → seen (queuedIn s (record { outcome = a .outcome; «rng_latency» = a .«rng_latency»; clock = a .clock; deliveries = deliveries; raised = a .raised })) w1
       ≡ played (logAt w raised) (queueDelivery cfg report fill (withQueue s rng clock deliveries))
-  queue-stop m s =
-      rw (queue-parts cfg report fill (withQueue s rng clock deliveries) .is)
-      (then-stop (logAt w raised) _ (push-of report fill) (reportedIn (withDeliveries s deliveries) a) w1 (e (withDeliveries s deliveries)) m)
+  unfolding queueDelivery
+  queue-stop m s = then-stop (logAt w raised) _ (push-of report fill) (reportedIn (withDeliveries s deliveries) a) w1 (e (withDeliveries s deliveries)) m
 
   module _ (h : a .outcome ≡ Ran) (put : DeliveriesPut)
       (p : deliveriesPut put ≡ pushed 24 (record { «at_ns» = a .clock .«last_delivery_ns»; report = report; fill = fill }) (deliveriesRow deliveries)) where
     -- what the push leaves is what the whole leaves
     pushes : (s : KernelState) {x : Seen} → x ≡ played (logAt w1 (a .raised)) (push-of report fill (withQueue s (a .«rng_latency») (a .clock) deliveries))
         → x ≡ played (logAt w raised) (queueDelivery cfg report fill (withQueue s rng clock deliveries))
-    pushes s q =
-        rw (queue-parts cfg report fill (withQueue s rng clock deliveries) .is)
-        (then-on (logAt w raised) _ (push-of report fill) (reportedIn (withDeliveries s deliveries) a) w1 (e (withDeliveries s deliveries)) h q)
+    unfolding queueDelivery
+    pushes s q = then-on (logAt w raised) _ (push-of report fill) (reportedIn (withDeliveries s deliveries) a) w1 (e (withDeliveries s deliveries)) h q
 
     pub queue-in : put .ok ≡ true → (s : KernelState)
         → seen (queuedIn s (record { outcome = Ran; «rng_latency» = a .«rng_latency»; clock = a .clock; deliveries = put .list; raised = a .raised })) w1

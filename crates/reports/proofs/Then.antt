@@ -1,14 +1,13 @@
 -- What the code gives from step to step is what the rules give: the laws by which each function's proof goes. Assumes nothing.
 use Prim.Native.Nat.{ℕ, _+_}
 use mathlib.Core.Path.{_≡_, refl, sym, ap, _∙_, subst}
-use mathlib.Core.Bool.{Bool, true, false}
+use mathlib.Core.Bool.{true, false}
 use mathlib.Core.List.{List, [], _∷_}
 use mathlib.Core.Logic.{⊎-elim}
-use mathlib.Core.Option.{Option, none, some}
+use mathlib.Core.Option.{none, some}
 use native.Mathlib.Omega.{arith}
 use types.Run.{OneOf}
 use denote.Enum.Declared.{tagOf}
-use Rattle.numbers.specs.Choice.{pick}
 use Rattle.numbers.specs.Words.{fits, fitting, onWord}
 use Rattle.numbers.specs.declared.MaybeU64.{MaybeU64}
 use Rattle.numbers.specs.declared.MaybeU64.the-variants.{None, Some}
@@ -104,41 +103,6 @@ module _ (l : Log) (s : KernelState) (k : KernelState → rules.Run) (next : May
   pub stamp-full : next ≡ None → record { outcome = Halt CounterOverflow; state = s; log = l } ≡ played l (rules.andThen (stamp s) k)
   unfolding stamp onWord rules.andThen played noted
   stamp-full h = rw (← e, h)
-
--- ---- a run in two parts: j, then f
-pub record Parts (f : KernelState → rules.Run) (r j : rules.Run) : Type 0 where
-  pub is : r ≡ rules.andThen j f
-
-module _ {f : KernelState → rules.Run} where
-  pub halt-parts : (h : HaltReason) (s : KernelState) → Parts f (rules.haltAt h s) (rules.haltAt h s)
-  unfolding rules.andThen
-  halt-parts h s = record { is = refl }
-
-  pub word-parts : (m : MaybeU64) {k j : ℕ → rules.Run} {z y : rules.Run} → ((n : ℕ) → Parts f (k n) (j n)) → Parts f z y → Parts f (onWord m k z) (onWord m j y)
-  unfolding onWord
-  word-parts None h e = e
-  word-parts (Some n) h e = h n
-
-  pub some-parts : {A : Type 0} (m : Option A) {k j : A → rules.Run} {z y : rules.Run} → ((x : A) → Parts f (k x) (j x)) → Parts f z y → Parts f (onSome m k z) (onSome m j y)
-  unfolding onSome
-  some-parts none h e = e
-  some-parts (some x) h e = h x
-
-  pub pick-parts : (b : Bool) {k j z y : rules.Run} → Parts f k j → Parts f z y → Parts f (pick b k z) (pick b j y)
-  unfolding pick
-  pick-parts true h e = h
-  pick-parts false h e = e
-
-  pub stamp-parts : (s : KernelState) {k j : KernelState → rules.Run} → ((t : KernelState) → Parts f (k t) (j t)) → Parts f (rules.andThen (stamp s) k) (rules.andThen (stamp s) j)
-  unfolding stamp
-  stamp-parts s {k} {j} h = record { is = by-word (fitting (s .seqs .«stamp_seq» + 1)) }
-    where
-      stamped-by : MaybeU64 → rules.Run
-      stamped-by m = onWord m (λ n. rules.ranTo (withSeqs s (seqsStampSeq (s .seqs) n))) (rules.haltAt CounterOverflow s)
-
-      by-word : (m : MaybeU64) → rules.andThen (stamped-by m) k ≡ rules.andThen (rules.andThen (stamped-by m) j) f
-      by-word None = unfold onWord rules.andThen in refl
-      by-word (Some n) = unfold onWord rules.andThen in (h (withSeqs s (seqsStampSeq (s .seqs) n)) .is)
 
 -- ---- an entry that comes out of a list, then k: q is what the code has of it
 module _ {A : Type 0} (l : Log) (p : Taken A) (k : A → Row A → rules.Run) (z : rules.Run) (q : Taken A) (e : q ≡ p) where

@@ -20,9 +20,9 @@ use numbers::words::max;
 ghost use mathlib.Core.Path.{_≡_};
 ghost use Rattle.book.specs.declared.state.KernelState.{KernelState};
 ghost use Rattle.book.specs.declared.MaybeFill.the-variants.{None};
-ghost use Rattle.rules.specs.Report.{queueDelivery};
+ghost use Rattle.rules.specs.Report.{reportAt, reported, queueDelivery};
 ghost use Rattle.reports.specs.Log.{logAt, played, seen};
-ghost use Rattle.reports.specs.Report.{reportAt, reported, reportedIn, withReport, queuedIn, withQueue};
+ghost use Rattle.reports.specs.Report.{reportedIn, withReport, queuedIn, withQueue};
 
 // What telling a report changes: the clock's `last_delivery_ns` is the time of its delivery.
 pub struct Reported {

@@ -26,7 +26,7 @@ use Rattle.book.specs.declared.state.KernelState.{KernelState}
 use Rattle.book.specs.declared.state.Phase.{Phase}
 use Rattle.numbers.specs.declared.MaybeU64.{MaybeU64}
 use Rattle.rules.specs.Run.{Run, ran, ranTo, raised, andThen, again, last}
-use Rattle.rules.specs.Report.{stamp, delayed, pushDelivery, queueDelivery, reportOn}
+use Rattle.rules.specs.Report.{stamp, delayed, pushDelivery, reported, queueDelivery, reportOn}
 use Rattle.rules.specs.Messages.{release, await, awaitMarked, book, schedule, removeExpiry, scheduleExpiry, accept, reject, activate, activation, cancelBooked, onActivation, cancelPending, cancelAwaiting, cancel, expireBooked, expire, acts, applyNextMsg}
 use Rattle.rules.specs.Delivery.{countFill, moveAgent, countReject, deliverNext}
 use Rattle.rules.specs.Events.{popObservation, Class, venue, delivery, observation, Next, nothing, next, dueBy, nextMsg, nextDelivery, nextObservation, sooner, nextOf, clockTo, handle, turnOn, eventTurn, extraKind, extra, weight, runEvents}
@@ -71,8 +71,8 @@ module _ {x : ℕ} {p : Phase} {h : ℕ} where
   push-in j d s k = putting-in _ _ s (λ l a. pays (omega (arith, k .paid, a .one-more)) k)
 
   pub report-in : (j : ℕ) {n : ℕ} (c : Config) (r : ReportRec) (f : MaybeFill) (s : KernelState) → Kept x p h (j + 3 + 1) n s → Within n (Kept x p h j) (queueDelivery c r f s)
-  unfolding queueDelivery delayed
-  report-in j c r f s k = word-in _ (λ at. then-in (raise-in (j + 3) _ _ k) (λ m t g. push-in j _ t g)) halt-in
+  unfolding queueDelivery reported delayed
+  report-in j c r f s k = then-in (word-in _ (λ at. raise-in (j + 3) _ _ k) halt-in) (λ m t g. push-in j _ t g)
 
   -- ---- the lists of orders and messages
   release-in : (j : ℕ) {n : ℕ} (o : VenueOrder) (s : KernelState) → Kept x p h j n s → Within n (Kept x p h j) (release o s)

@@ -20,7 +20,7 @@ use Rattle.book.specs.declared.state.Phase.{Phase}
 use Rattle.book.specs.declared.state.Phase.the-variants.{BeforeMatch, ObsQueued, AwaitDecision, Terminal}
 use Rattle.rules.specs.Run.{Run, ran, ended, after, andThen, again, last}
 use Rattle.rules.specs.Report.{delayed}
-use Rattle.rules.specs.Matching.{filledBy, fillTold, fillAt, matchOrder, matchAt, matchFrom, leave, sweepFrom, sweep, matchRow}
+use Rattle.rules.specs.Matching.{filledBy, fillCounted, fillEvent, fillAt, matchOrder, matchAt, matchFrom, leave, sweepFrom, sweep, matchRow}
 use Rattle.rules.specs.Delivery.{deliverAll, droppedEvent, closeData, endOfData}
 use Rattle.rules.specs.Phases.{queueObservation, matchPhase, beforeMatch, settleRow, settle, nextRow, obsQueued, onPhase, phaseTurn, turnsIn, turns, phases}
 use Rattle.rules.proofs.Loop.{run-again, run-last}
@@ -32,16 +32,14 @@ stored-few i h o r w = store-case 8 (λ (q : Put VenueOrder). q .list .count ≤
 
 module _ {x : ℕ} {p : Phase} {h : ℕ} where
   -- ---- a row over the orders: a fill costs 5, its event and its report
-  told-in : (j : ℕ) {n : ℕ} (c : Config) (i : ℕ) (o : VenueOrder) (q : ℕ) (s u : KernelState) → Kept x p h (j + 3 + 1 + 1) n u → Within n (Kept x p h j) (fillTold c i o q s u)
-  unfolding fillTold
-  told-in j c i o q s u k = word-in _
-      (λ w. then-in (raise-in (j + 3 + 1) _ _ (record { at = k .at; on = k .on; room = k .room; few = stored-few i h (filledBy q o) (ordersRow (u .orders)) (k .few); paid = k .paid }))
-      (λ m t g. report-in j c _ _ t g))
-      halt-in
+  event-in : (j : ℕ) {n : ℕ} (o : VenueOrder) (q : ℕ) (s : KernelState) → Kept x p h (j + 1) n s → Within n (Kept x p h j) (fillEvent o q s)
+  unfolding fillEvent fillCounted
+  event-in j o q s k = then-in (stamp-in (j + 1) s k) (λ m t g. some-in _ (λ y. pick-in _ (word-in _ (λ e. word-in _ (λ w. raise-in j _ _ g) halt-in) halt-in) halt-in) halt-in)
 
   fill-in : (j : ℕ) {n : ℕ} (c : Config) (i : ℕ) (o : VenueOrder) (q : ℕ) (s : KernelState) → Kept x p h (j + 3 + 1 + 1) n s → Within n (Kept x p h j) (fillAt c i o q s)
   unfolding fillAt
-  fill-in j c i o q s k = then-in (stamp-in (j + 3 + 1 + 1) s k) (λ m t g. some-in _ (λ y. pick-in _ (word-in _ (λ e. told-in j c i o q s _ g) halt-in) halt-in) halt-in)
+  fill-in j c i o q s k = then-in (event-in (j + 3 + 1) o q s k)
+      (λ m t g. report-in j c _ _ _ (record { at = g .at; on = g .on; room = g .room; few = stored-few i h (filledBy q o) (ordersRow (t .orders)) (g .few); paid = g .paid }))
 
   match-at-in : (j : ℕ) {n : ℕ} (c : Config) (row : KernelTick) (i : ℕ) (s : KernelState) → Kept x p h (j + 3 + 1 + 1) n s → Within n (Kept x p h j) (matchAt c row i s)
   unfolding matchAt matchOrder

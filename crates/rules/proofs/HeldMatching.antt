@@ -16,7 +16,7 @@ use Rattle.lists.proofs.Sums.{entry-case, total-none, there, Took}
 use Rattle.lists.proofs.Totals.{Stored, stored, front-all, front-more, front-same}
 use Rattle.book.specs.Entries.{blankOrder, remaining, isTerminal}
 use Rattle.book.specs.Rows.{ordersRow, ordersOf}
-use Rattle.book.specs.With.{withSeqs, withOrders, withGate, seqsStampSeq, seqsNextExecId}
+use Rattle.book.specs.With.{withSeqs, withOrders, withGate, seqsStampSeq}
 use Rattle.book.specs.declared.OrderState.{OrderState}
 use Rattle.book.specs.declared.VenueOrder.{VenueOrder}
 use Rattle.book.specs.declared.config.Config.{Config}
@@ -25,11 +25,11 @@ use Rattle.book.specs.declared.config.FillMode.the-variants.{Immediate, QueuePo
 use Rattle.book.specs.declared.config.KernelTick.{KernelTick}
 use Rattle.book.specs.declared.state.KernelState.{KernelState}
 use Rattle.rules.specs.Messages.{removeExpiry}
-use Rattle.rules.specs.Matching.{lotsOf, queueFillLots, fillLots, filledBy, fillRecord, fillTold, fillAt, matchOrder, matchAt, matchFrom, leave, terminalAt, sweepFrom, sweep, marked, matchRow}
+use Rattle.rules.specs.Matching.{lotsOf, queueFillLots, fillLots, filledBy, fillCounted, fillEvent, fillAt, matchOrder, matchAt, matchFrom, leave, terminalAt, sweepFrom, sweep, marked, matchRow}
 use Rattle.rules.specs.Conservation.{ofSide, lotsOn}
 use Rattle.rules.proofs.Cases.{word-case, movedBy}
 use Rattle.rules.proofs.Positions.{even-same, even-venue}
-use Rattle.rules.proofs.Kept.{ran-kept, halt-kept, pick-kept, word-kept, taking-kept, raised-then, ran-then, picks-kept, then-kept}
+use Rattle.rules.proofs.Kept.{ran-kept, halt-kept, pick-kept, word-kept, taking-kept, raised-kept, ran-then, picks-kept, then-kept}
 use Rattle.rules.proofs.Steps.{stamp-then, await-kept}
 use Rattle.rules.proofs.Held.{when, over, overLots, nil, Held, Inv, Mid, Good, Gone, gateWith, no-lots, split-lots, filled-case}
 use Rattle.rules.proofs.HeldMessages.{report-good, took-order, removed-held}
@@ -86,16 +86,19 @@ module _ (i n : ℕ) (s : KernelState) (w : i < s .orders .count) (some-lots : 0
         few-deliveries = h .few-deliveries;
       }
 
-fill-told-good : (c : Config) (i n : ℕ) (s t : KernelState) (buy sell : ℕ) → i < t .orders .count → 0 < n → n ≤ remaining (orderAt i t) → Mid t → Gone (orderAt i t .side) n (t .gate) buy sell → (e : ℕ)
-    → Good Mid (fillTold c i (orderAt i t) n s (withSeqs (withGate t (gateWith (t .gate) (movedBy (orderAt i t .side) n (t .gate .«venue_pos» .lots)) buy sell)) (seqsNextExecId (t .seqs) e)))
-unfolding fillTold fillRecord
-fill-told-good c i n s t buy sell w z m h q e = word-kept _ (λ k. raised-then _ _ _ (report-good c _ _ _ (filled-held i n t w z m h buy sell q))) halt-kept
+-- the fill is in no delivery yet, and the order is to be stored
+abbrev Ready : ℕ → VenueOrder → ℕ → KernelState → Type 0
+Ready i o n t = Held overLots nil (λ x. ofSide x (o .side) n) (withOrders t (ordersOf (storeAt 8 i (filledBy n o) (ordersRow (t .orders)) .list)))
+
+event-good : (i n : ℕ) (s : KernelState) → i < s .orders .count → 0 < n → n ≤ remaining (orderAt i s) → Mid s → Good (Ready i (orderAt i s) n) (fillEvent (orderAt i s) n s)
+unfolding fillEvent fillCounted
+event-good i n s w z m h = stamp-then s _ (λ k. filled-case (Good (Ready i (orderAt i s) n)) _ _ _ _ _
+    (λ buy sell q. pick-kept _ (word-kept _ (λ e. word-kept _ (λ f. raised-kept (filled-held i n (withSeqs s (seqsStampSeq (s .seqs) k)) w z m h buy sell q)) halt-kept) halt-kept) halt-kept)
+    halt-kept)
 
 fill-at-good : (c : Config) (i n : ℕ) (s : KernelState) → i < s .orders .count → 0 < n → n ≤ remaining (orderAt i s) → Mid s → Good Mid (fillAt c i (orderAt i s) n s)
 unfolding fillAt
-fill-at-good c i n s w z m h = stamp-then s _ (λ k. filled-case (Good Mid) _ _ _ _ _
-    (λ buy sell q. pick-kept _ (word-kept _ (fill-told-good c i n s (withSeqs s (seqsStampSeq (s .seqs) k)) buy sell w z m h q) halt-kept) halt-kept)
-    halt-kept)
+fill-at-good c i n s w z m h = then-kept (event-good i n s w z m h) (λ t g. report-good c _ _ _ g)
 
 -- ---- the pass over the orders
 order-good : (c : Config) (row : KernelTick) (i : ℕ) (s : KernelState) → i < s .orders .count → Mid s → Good Mid (matchOrder c row i (orderAt i s) s)

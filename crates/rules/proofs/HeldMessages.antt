@@ -24,11 +24,11 @@ use Rattle.book.specs.declared.VenueOrder.{VenueOrder}
 use Rattle.book.specs.declared.config.Config.{Config}
 use Rattle.book.specs.declared.state.KernelState.{KernelState}
 use Rattle.rules.specs.Run.{ranTo, andThen}
-use Rattle.rules.specs.Report.{pushDelivery, queueDelivery}
+use Rattle.rules.specs.Report.{pushDelivery, reported, queueDelivery}
 use Rattle.rules.specs.Messages.{release, book, schedule, removeExpiry, scheduleExpiry, accept, reject, activate, activation, cancelBooked, onActivation, cancelPending, cancelAwaiting, cancel, expireBooked, expire, acts, applyNextMsg}
 use Rattle.rules.specs.Conservation.{lotsOn, carriedBy, carriedOn, recordedBy, recordedOn}
 use Rattle.rules.proofs.Positions.{even-same}
-use Rattle.rules.proofs.Kept.{ran-kept, halt-kept, pick-kept, some-kept, word-kept, taking-kept, putting-kept, raised-then, then-kept}
+use Rattle.rules.proofs.Kept.{ran-kept, halt-kept, pick-kept, some-kept, word-kept, taking-kept, putting-kept, raised-kept, raised-then, then-kept}
 use Rattle.rules.proofs.Steps.{stamp-then, delayed-kept, await-kept}
 use Rattle.rules.proofs.Held.{over, nil, Held, Inv, Good, blank-lots, released-case}
 
@@ -48,8 +48,8 @@ module _ {t : VenueOrder → ℕ} {hand : Side → ℕ} where
 
   -- the fill that it tells is in a delivery
   pub report-good : (c : Config) (r : ReportRec) (f : MaybeFill) (s : KernelState) → Held t hand (λ x. recordedBy x f) s → Good (Held t hand nil) (queueDelivery c r f s)
-  unfolding queueDelivery
-  report-good c r f s h = delayed-kept c _ _ s _ λ at rng. raised-then _ _ _ (push-good _ _ h)
+  unfolding queueDelivery reported
+  report-good c r f s h = then-kept (delayed-kept c _ _ s _ λ at rng. raised-kept h) (λ t g. push-good _ t g)
 
   pub told-good : (c : Config) (r : ReportRec) (s : KernelState) → Held t hand nil s → Good (Held t hand nil) (queueDelivery c r fill.None s)
   told-good c r s h = report-good c r fill.None s h

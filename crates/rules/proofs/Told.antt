@@ -32,9 +32,9 @@ use Rattle.book.specs.declared.state.KernelState.{KernelState}
 use Rattle.book.specs.declared.state.Phase.{Phase}
 use Rattle.book.specs.declared.state.Phase.the-variants.{BeforeMatch, ObsQueued, AwaitDecision, Terminal}
 use Rattle.rules.specs.Run.{Outcome, Run, ran, left, halt, ended, ranTo, raised, haltAt, onRan, after, andThen, putting, taking, Turn, again, last, onTurn, iter}
-use Rattle.rules.specs.Report.{stamp, delayed, pushDelivery, queueDelivery}
+use Rattle.rules.specs.Report.{stamp, delayed, pushDelivery, reported, queueDelivery}
 use Rattle.rules.specs.Messages.{release, await, awaitMarked, book, schedule, scheduleExpiry, accept, reject, activate, activation, cancelBooked, onActivation, cancelPending, cancelAwaiting, cancel, expireBooked, expire, acts, applyNextMsg}
-use Rattle.rules.specs.Matching.{fillTold, fillAt, matchOrder, matchAt, matchFrom, leave, sweepFrom, sweep, matchRow}
+use Rattle.rules.specs.Matching.{fillCounted, fillEvent, fillAt, matchOrder, matchAt, matchFrom, leave, sweepFrom, sweep, matchRow}
 use Rattle.rules.specs.Delivery.{countFill, moveAgent, countReject, deliverNext, deliverAll, droppedBy, droppedEvent, closeData, endOfData}
 use Rattle.rules.specs.Events.{popObservation, Class, venue, delivery, observation, Next, nothing, next, nextOf, handle, turnOn, eventTurn, runEvents}
 use Rattle.rules.specs.Phases.{queueObservation, matchPhase, beforeMatch, settleRow, settle, nextRow, obsQueued, onPhase, phaseTurn, phases}
@@ -161,8 +161,8 @@ unfolding delayed
 delayed-tells c from base s h = word-tells _ (λ at. h at _) halt-tells
 
 report-tells : (c : Config) (r : ReportRec) (f : MaybeFill) (s : KernelState) → Tells (queueDelivery c r f s)
-unfolding queueDelivery pushDelivery
-report-tells c r f s = delayed-tells c _ _ s (λ at t. then-tells (raised-tells tt) (λ u. putting-tells _ _ u))
+unfolding queueDelivery reported pushDelivery
+report-tells c r f s = then-tells (delayed-tells c _ _ s (λ at t. raised-tells tt)) (λ u. putting-tells _ _ u)
 
 -- ---- messages
 release-tells : (o : VenueOrder) (s : KernelState) → Tells (release o s)
@@ -212,9 +212,9 @@ acts-tells c (Expire id) s t = expire-tells c id t
 
 -- ---- matching
 fill-tells : (c : Config) (i : ℕ) (o : VenueOrder) (n : ℕ) (s : KernelState) → Tells (fillAt c i o n s)
-unfolding fillAt fillTold
-fill-tells c i o n s = then-tells (stamp-tells s) (λ t.
-    some-tells _ (λ g. pick-tells _ (word-tells _ (λ e. word-tells _ (λ k. then-tells (raised-tells tt) (report-tells c _ _)) halt-tells) halt-tells) halt-tells) halt-tells)
+unfolding fillAt fillEvent fillCounted
+fill-tells c i o n s = then-tells (then-tells (stamp-tells s) (λ t.
+    some-tells _ (λ g. pick-tells _ (word-tells _ (λ e. word-tells _ (λ k. raised-tells tt) halt-tells) halt-tells) halt-tells) halt-tells)) (λ t. report-tells c _ _ _)
 
 match-tells : (c : Config) (row : KernelTick) (k i : ℕ) (s : KernelState) → Tells (matchFrom c row k i s)
 unfolding matchFrom matchAt matchOrder

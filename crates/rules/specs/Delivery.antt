@@ -2,8 +2,6 @@
 use Prim.Native.Nat.{ℕ, zero, suc, _+_}
 use mathlib.Core.Bool.{Bool, true, false}
 use mathlib.Core.List.{List, [], _∷_, map}
-use mathlib.Core.Option.{Option, none, some}
-use lib.ListN.{length}
 use Rattle.numbers.specs.Choice.{pick}
 use Rattle.numbers.specs.Words.{fitting, onWord}
 use Rattle.numbers.specs.Position.{onMoved}
@@ -11,6 +9,7 @@ use Rattle.lists.specs.Lists.{onSome, live, foundIn, takeAt, popped, storeAt, e
 use Rattle.book.specs.Entries.{blankMsg, blankDelivery, blankObs, blankOpen, isOpenOf}
 use Rattle.book.specs.Rows.{msgsRow, msgsOf, deliveriesRow, deliveriesOf, observedRow, observedOf, accountRow, accountOf}
 use Rattle.book.specs.With.{withControl, withMsgs, withDeliveries, withObserved, withAgent, withAccount, withCounters, controlPhase, controlStatus, agentPos, agentDeliveredFills, agentDeliveredLocalRejects, countersEofDroppedMsgs, countersEofDroppedObs}
+use Rattle.book.specs.declared.Delivery.{Delivery}
 use Rattle.book.specs.declared.ExecKind.{ExecKind}
 use Rattle.book.specs.declared.ExecKind.the-variants as exec
 use Rattle.book.specs.declared.MaybeFill.{MaybeFill}
@@ -99,15 +98,16 @@ onDelivery r a =
     (λ i. affected (effect (r .kind) (r .origin) (r .«cancel_pending»)) (r .«order_id») i a)
     a
 
--- ---- "Delivery writes delivered, .."
-unfoldable pub deliverNext : KernelState → Run
-deliverNext s =
-    taking (popped 24 blankDelivery (deliveriesRow (s .deliveries)))
-    (λ d l. andThen (raised (Delivered (d .report)) (withDeliveries s (deliveriesOf l))) λ t.
+-- ---- "Delivery writes delivered, ..": d is no more in the list
+abbrev pub handed : Delivery → KernelState → Run
+handed d s =
+    andThen (raised (Delivered (d .report)) s) λ t.
     andThen (moveAgent (d .fill) t) λ u.
     andThen (countReject (d .report) u) λ v.
-    ranTo (withAccount v (onDelivery (d .report) (v .account))))
-    (ranTo s)
+    ranTo (withAccount v (onDelivery (d .report) (v .account)))
+
+unfoldable pub deliverNext : KernelState → Run
+deliverNext s = taking (popped 24 blankDelivery (deliveriesRow (s .deliveries))) (λ d l. handed d (withDeliveries s (deliveriesOf l))) (ranTo s)
 
 -- ---- "End of data delivers all, writes each dropped message, empties messages and observations, adds to the two counters, sets its status and Terminal, writes event 6; the clock stands."
 -- n deliveries

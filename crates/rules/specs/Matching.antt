@@ -1,7 +1,7 @@
 -- 'Matching': a row over the booked orders, and the terminal orders that leave after it.
 use Prim.Native.Nat.{ℕ, zero, suc, _+_, _-_, _*_, _/_}
-use mathlib.Core.Bool.{Bool, true, false, _&&_}
-use mathlib.Core.Option.{Option, none, some}
+use mathlib.Core.Bool.{Bool, false, _&&_}
+use mathlib.Core.Option.{Option, none}
 use lib.Dec.{ltb, leb, eqb}
 use Rattle.numbers.specs.Choice.{pick}
 use Rattle.numbers.specs.Words.{fits, fitting, onWord}
@@ -92,34 +92,44 @@ filledBy n o = record {
   «cancel_inflight» = o .«cancel_inflight»;
 }
 
-unfoldable pub fillRecord : KernelState → VenueOrder → ℕ → FillRec
-fillRecord s o n = record { «ts_ns» = s .clock .«now_ns»; «exec_id» = s .seqs .«next_exec_id»; «order_id» = o .id; side = o .side; price = o .price; qty = n }
+-- the record of a fill by its time and its exec id
+abbrev pub recordAt : ℕ → ℕ → VenueOrder → ℕ → FillRec
+recordAt now exec o n = record { «ts_ns» = now; «exec_id» = exec; «order_id» = o .id; side = o .side; price = o .price; qty = n }
+
+abbrev pub fillRecord : KernelState → VenueOrder → ℕ → FillRec
+fillRecord s = recordAt (s .clock .«now_ns») (s .seqs .«next_exec_id»)
+
+abbrev pub fillKind : ℕ → VenueOrder → ExecKind
+fillKind n o = pick (eqb n (remaining o)) exec.Fill exec.PartialFill
 
 -- "last the fill"; "cancel_pending is the order's in-flight mark in .. fills"
 unfoldable pub fillReport : KernelState → VenueOrder → ℕ → ReportRec
-fillReport s o n = reportOn s (filledBy n o) (pick (eqb n (remaining o)) exec.Fill exec.PartialFill) (o .«cancel_inflight») n
+fillReport s o n = reportOn s (filledBy n o) (fillKind n o) (o .«cancel_inflight») n
 
--- "`venue_fills`, fill event, order stored, report": u has the gate and the exec id written
-unfoldable pub fillTold : Config → ℕ → VenueOrder → ℕ → KernelState → KernelState → Run
-fillTold c i o n s u =
+-- ".. then `venue_fills`, fill event ..": u has the gate and the exec id written
+unfoldable pub fillCounted : VenueOrder → ℕ → KernelState → KernelState → Run
+fillCounted o n s u =
     onWord (fitting (u .counters .«venue_fills» + 1))
-    (λ k. andThen
-    (raised (Fill (fillRecord s o n))
-    (withOrders (withCounters u (countersVenueFills (u .counters) k)) (ordersOf (storeAt 8 i (filledBy n o) (ordersRow (u .orders)) .list))))
-    (queueDelivery c (fillReport s o n) (fill.Some (fillRecord s o n))))
+    (λ k. raised (Fill (fillRecord s o n)) (withCounters u (countersVenueFills (u .counters) k)))
     (haltAt CounterOverflow u)
 
--- "After a fill: stamp; gate and exec id, written only when both and the doubled price have passed"
-unfoldable pub fillAt : Config → ℕ → VenueOrder → ℕ → KernelState → Run
-fillAt c i o n s =
+-- "After a fill: stamp; gate and exec id, written only when both and the doubled price have passed; .."
+unfoldable pub fillEvent : VenueOrder → ℕ → KernelState → Run
+fillEvent o n s =
     andThen (stamp s) λ t.
     onSome (gateFilled (o .side) n (t .gate))
     (λ g. pick (fits (o .price * 2))
     (onWord (fitting (t .seqs .«next_exec_id» + 1))
-    (λ e. fillTold c i o n s (withSeqs (withGate t g) (seqsNextExecId (t .seqs) e)))
+    (λ e. fillCounted o n s (withSeqs (withGate t g) (seqsNextExecId (t .seqs) e)))
     (haltAt CounterOverflow t))
     (haltAt LedgerOverflow t))
     (haltAt CounterOverflow t)
+
+-- ".. order stored, report"
+unfoldable pub fillAt : Config → ℕ → VenueOrder → ℕ → KernelState → Run
+fillAt c i o n s =
+    andThen (fillEvent o n s) λ t.
+    queueDelivery c (fillReport s o n) (fill.Some (fillRecord s o n)) (withOrders t (ordersOf (storeAt 8 i (filledBy n o) (ordersRow (t .orders)) .list)))
 
 -- ---- the pass over the orders
 -- "A fill of 0 does nothing."

@@ -1,6 +1,6 @@
 -- 'Report': stamps, delays, and a report with its delivery.
 use Prim.Native.Nat.{ℕ, _+_, _*_, max}
-use mathlib.Core.Bool.{Bool, false}
+use mathlib.Core.Bool.{Bool}
 use Rattle.numbers.specs.Words.{fitting, onWord}
 use Rattle.numbers.specs.declared.MaybeU64.{MaybeU64}
 use Rattle.numbers.specs.declared.MaybeU64.the-variants.{None}
@@ -54,20 +54,23 @@ delayed c from base s k =
 unfoldable pub pushDelivery : Delivery → KernelState → Run
 pushDelivery d s = putting (pushed 24 d (deliveriesRow (s .deliveries))) (λ l. withDeliveries s (deliveriesOf l)) s
 
--- "Delivery time is its ts plus the delay from `ack_q`, never below `last_delivery_ns`, which takes it. The report event precedes the push.
--- A delivery holds its time, the report and, for a match only, the fill's record."
+-- "Delivery time is its ts plus the delay from `ack_q`, never below `last_delivery_ns`, which takes it. The report event precedes the push."
+unfoldable pub reported : Config → ReportRec → KernelState → Run
+reported c r s =
+    delayed c (r .«ts_ns») (c .«ack_q») s λ at t.
+    raised (Report r) (withClock t (clockLastDeliveryNs (t .clock) (max at (t .clock .«last_delivery_ns»))))
+
+-- "A delivery holds its time, the report and, for a match only, the fill's record."
 unfoldable pub queueDelivery : Config → ReportRec → MaybeFill → KernelState → Run
 queueDelivery c r f s =
-    delayed c (r .«ts_ns») (c .«ack_q») s λ at t.
-    let when : ℕ = max at (t .clock .«last_delivery_ns») in
-    andThen (raised (Report r) (withClock t (clockLastDeliveryNs (t .clock) when)))
-    (pushDelivery (record { «at_ns» = when; report = r; fill = f }))
+    andThen (reported c r s) λ t.
+    pushDelivery (record { «at_ns» = t .clock .«last_delivery_ns»; report = r; fill = f }) t
 
--- "Origin is Venue, cum the order's filled, last the fill or 0": the report on an order, stamped at s
-abbrev pub reportOn : KernelState → VenueOrder → ExecKind → Bool → ℕ → ReportRec
-reportOn s o k pending lots = record {
-  «ts_ns» = s .clock .«now_ns»;
-  seq = s .seqs .«stamp_seq»;
+-- "Origin is Venue, cum the order's filled, last the fill or 0": the report on an order by its stamp, a time and a number
+abbrev pub reportAt : ℕ → ℕ → VenueOrder → ExecKind → Bool → ℕ → ReportRec
+reportAt ts seq o k pending lots = record {
+  «ts_ns» = ts;
+  seq = seq;
   «order_id» = o .id;
   side = o .side;
   kind = k;
@@ -78,3 +81,7 @@ reportOn s o k pending lots = record {
   last = lots;
   cum = o .filled;
 }
+
+-- stamped at s
+abbrev pub reportOn : KernelState → VenueOrder → ExecKind → Bool → ℕ → ReportRec
+reportOn s = reportAt (s .clock .«now_ns») (s .seqs .«stamp_seq»)

@@ -72,30 +72,8 @@ impl Order {
 
 impl Msg {
     pub fn activate(eff: u64, seq: u64, order: Order, life: u64) -> Self {
-        let Order {
-            id,
-            side,
-            price,
-            qty,
-            filled,
-            state,
-            active,
-            cancel,
-        } = order;
-        Self {
-            eff,
-            seq,
-            kind: 0,
-            id,
-            side,
-            price,
-            qty,
-            filled,
-            state,
-            active,
-            cancel,
-            life,
-        }
+        let [a, b, c, d, e, f, g, h] = order.words();
+        Self::from_words([eff, seq, 0, a, b, c, d, e, f, g, h, life])
     }
     pub fn cancel(eff: u64, seq: u64, id: u64) -> Self {
         Self {
@@ -114,16 +92,8 @@ impl Msg {
     }
     /// The order of an activation.
     pub fn order(&self) -> Order {
-        Order {
-            id: self.id,
-            side: self.side,
-            price: self.price,
-            qty: self.qty,
-            filled: self.filled,
-            state: self.state,
-            active: self.active,
-            cancel: self.cancel,
-        }
+        let [_, _, _, order @ .., _] = self.words();
+        Order::from_words(order)
     }
     fn good(&self) -> bool {
         match self.kind {
@@ -137,20 +107,13 @@ impl Msg {
 
 impl Delivery {
     fn good(&self) -> bool {
-        let record = [
-            self.fts,
-            self.fexec,
-            self.forder,
-            self.fside,
-            self.fprice,
-            self.fqty,
-        ];
+        let words = self.words();
         self.side <= 1
             && self.kind <= 5
             && self.origin <= 1
             && self.pending <= 1
             && match self.has {
-                0 => record == [0; 6],
+                0 => words[13..] == [0; 6],
                 1 => self.fside <= 1,
                 _ => false,
             }

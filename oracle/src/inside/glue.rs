@@ -5,7 +5,7 @@
 use core::num::NonZeroU64;
 
 use crate::Decimal;
-use crate::case::{self, DLV, EVENT, Fill, List, MSG, OBS, ORD};
+use crate::case::{self, DLV, EVENT, Entry, Fill, List, MSG, OBS, ORD};
 use crate::types::action::{Action, Dir};
 
 use super::account::OpenOrder;
@@ -283,41 +283,14 @@ fn delivery_in(d: &case::Delivery) -> Delivery {
 }
 
 fn delivery_out(d: &Delivery) -> case::Delivery {
-    let [
-        ts,
-        seq,
-        order,
-        side,
-        kind,
-        origin,
-        pending,
-        price,
-        qty,
-        last,
-        cum,
-    ] = report_words(&d.report);
-    let [fts, fexec, forder, fside, fprice, fqty] = d.fill.as_ref().map_or([0; 6], fill_words);
-    case::Delivery {
-        at: d.at_ns,
-        ts,
-        seq,
-        order,
-        side,
-        kind,
-        origin,
-        pending,
-        price,
-        qty,
-        last,
-        cum,
-        has: u64::from(d.fill.is_some()),
-        fts,
-        fexec,
-        forder,
-        fside,
-        fprice,
-        fqty,
+    let mut words = [0; 19];
+    words[0] = d.at_ns;
+    words[1..12].copy_from_slice(&report_words(&d.report));
+    if let Some(fill) = &d.fill {
+        words[12] = 1;
+        words[13..].copy_from_slice(&fill_words(fill));
     }
+    case::Delivery::from_words(words)
 }
 
 fn list_in<T, U: Blank, const N: usize>(list: &List<T>, item: impl Fn(&T) -> U) -> Arr<U, N> {

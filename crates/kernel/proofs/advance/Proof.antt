@@ -16,8 +16,14 @@ advance-spec =
     (λ c κs. search needs)
     (λ c. search needs)
     (λ c. search needs)
-    (λ c. advance-ran _ _ _ (eq-eqb _ _ (c .before .before .before .before .before .before .before .before .if1 .left)) (sym (c .before .before .before .before .before .before .before .counts-fit .ensures) ∙ not-false (c .before .before .before .before .before .before .before .counts-fit .result) (c .before .before .before .before .before .before .if2 .left)) (omega (arith, c .before .before .before .before .before .before .before .before .before .before .before .good .1 .0 .1)) _ (c .before .before .before .before .run-phases .result) _ (c .before .before .before .before .run-phases .ensures) (c .match .keys2))
+    (λ c. let b = c .before .before .before .before in let d = b .before .before in let e = d .before in let f = e .before in let g = f .before .before .before in
+    advance-ran _ _ _ (eq-eqb _ _ (f .if1 .left)) (sym (e .counts-fit .ensures) ∙ not-false (e .counts-fit .result) (d .if2 .left))
+    (omega (arith, g .good .1 .0 .1)) _ (b .run-phases .result) _ (b .run-phases .ensures) (c .match .keys2))
     (λ c κs. search needs)
     (λ c κs. search needs)
     (λ c. search needs)
-    (λ c. advance-halts _ _ _ (eq-eqb _ _ (c .before .before .before .before .before .before .before .before .before .before .before .before .before .before .before .if1 .left)) (sym (c .before .before .before .before .before .before .before .before .before .before .before .before .before .before .counts-fit .ensures) ∙ not-false (c .before .before .before .before .before .before .before .before .before .before .before .before .before .before .counts-fit .result) (c .before .before .before .before .before .before .before .before .before .before .before .before .before .if2 .left)) (omega (arith, c .before .before .before .before .before .before .before .before .before .before .before .before .before .before .before .before .before .before .good .1 .0 .1)) _ (c .before .before .before .before .before .before .before .before .before .before .before .run-phases .result) _ (c .before .before .before .before .before .before .before .before .before .before .before .run-phases .ensures) _ (c .before .before .before .before .before .before .o .given .1) _ (c .before .before .before .before .halt .ensures) _ _ (c .before .before .emit .ensures)))
+    (λ c. let b = c .before .before .before .before in let d = b .before .before in let e = d .before .before .before .before .before in let f = e .before .before in
+    let g = f .before in let h = g .before in let i = h .before .before .before in
+    advance-halts _ _ _ (eq-eqb _ _ (h .if1 .left)) (sym (g .counts-fit .ensures) ∙ not-false (g .counts-fit .result) (f .if2 .left))
+    (omega (arith, i .good .1 .0 .1)) _ (e .run-phases .result) _ (e .run-phases .ensures) _ (d .o .given .1) _ (b .halt .ensures) _ _
+    (c .before .before .emit .ensures)))

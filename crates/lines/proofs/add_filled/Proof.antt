@@ -30,5 +30,11 @@ add-filled-spec =
     (λ c κs. search needs)
     (λ c. omega (arith, c .before .before .before .before .before .records .ensures))
     (λ c. omega arith)
-    (λ c. (omega arith, sum-turn (c .before .before .before .before .before .before .before .args .log .now) (c .before .before .before .before .before .records .result) (c .before .before .before .before .loop .i) (c .before .before .before .loop-test .taken) _ _ _ (c .before .before .before .before .loop .i * 12 + 12 - c .before .before .before .before .loop .i * 12) _ (omega arith) (c .before .filled-qty .ensures) (c .add-up-to .ensures) (c .before .before .before .before .loop .inv .1)))
-    (λ c. sum-whole (c .before .before .before .before .args .log .now) (c .before .before .before .before .args .sum) (c .before .before .before .before .args .events) (c .before .before .records .result) _ (c .before .before .records .ensures) (sum-end (c .before .before .before .before .args .log .now) (c .before .before .records .result) (c .before .loop .i) (c .loop-test .left) _ _ (c .before .loop .inv .1))))
+    (λ c. let b = c .before .before .before in let d = b .before in let e = d .before in let f = e .before .before in (
+      omega arith,
+      sum-turn (f .args .log .now) (e .records .result) (d .loop .i) (b .loop-test .taken) _ _ _ (d .loop .i * 12 + 12 - d .loop .i * 12) _
+          (omega arith) (c .before .filled-qty .ensures) (c .add-up-to .ensures) (d .loop .inv .1),
+    ))
+    (λ c. let b = c .before .before .before .before in
+    sum-whole (b .args .log .now) (b .args .sum) (b .args .events) (c .before .before .records .result) _ (c .before .before .records .ensures)
+    (sum-end (b .args .log .now) (c .before .before .records .result) (c .before .loop .i) (c .loop-test .left) _ _ (c .before .loop .inv .1))))

@@ -15,4 +15,5 @@ put-bad-spec =
     (λ c κs. search needs)
     (λ c κs. search needs)
     (λ c. c .before .before .put-byte .kept .0 ∙ c .before .before .before .before .before .before .put-field .kept .0 ∙ c .before .before .before .before .before .before .before .before .before .before .put-bytes .kept .0)
-    (λ c. rw (all-piece, ← c .before .before .before .before .before .before .before .before .before .before .put-bytes .ensures, all-piece, ← c .before .before .before .before .before .before .put-field .ensures, all-piece, ← c .before .before .put-byte .ensures, all-none)))
+    (λ c. let b = c .before .before .before .before .before .before in let d = b .before .before .before .before in
+    rw (all-piece, ← d .put-bytes .ensures, all-piece, ← b .put-field .ensures, all-piece, ← c .before .before .put-byte .ensures, all-none)))

@@ -30,10 +30,21 @@ put-call-spec =
     (λ c κs. search needs)
     (λ c. omega (arith, c .before .before .before .before .before .before .before .records .ensures))
     (λ c. omega arith)
-    (λ c. (omega arith, c .before .before .put-event .kept .0 ∙ c .before .before .before .before .before .before .loop .inv .1, call-turn (c .before .before .before .before .before .before .before .before .before .before .args .log .now) (c .before .before .before .before .before .before .before .records .result) (c .before .before .before .before .before .before .loop .i) (c .before .before .before .before .before .loop-test .taken) _ _ _ (c .before .before .before .before .before .before .loop .i * 12 + 12 - c .before .before .before .before .before .before .loop .i * 12) (omega arith) (c .before .before .put-event .ensures) (c .before .before .before .before .before .before .loop .inv .2)))
+    (λ c. let b = c .before .before .before .before .before in let d = b .before in let e = d .before in let f = e .before .before .before in (
+      omega arith,
+      c .before .before .put-event .kept .0 ∙ d .loop .inv .1,
+      call-turn (f .args .log .now) (e .records .result) (d .loop .i) (b .loop-test .taken) _ _
+          _ (d .loop .i * 12 + 12 - d .loop .i * 12) (omega arith) (c .before .before .put-event .ensures) (d .loop .inv .2),
+    ))
     (λ c. search needs)
     (λ c κs. search needs)
     (λ c. c .before .before .put-bytes .kept .0 ∙ c .before .before .before .before .before .before .before .loop .inv .1)
-    (λ c. call-cut (c .before .before .before .before .before .before .before .before .before .before .before .args .log .now) (c .before .before .before .before .before .before .before .before .before .before .before .args .events) (c .before .before .before .before .before .before .before .before .records .result) (c .before .before .before .before .before .before .before .before .records .ensures) _ _ (call-end (c .before .before .before .before .before .before .before .before .before .before .before .args .log .now) (c .before .before .before .before .before .before .before .before .records .result) (c .before .before .before .before .before .before .before .loop .i) (c .before .before .before .before .before .before .loop-test .left) _ _ (c .before .before .before .before .before .before .before .loop .inv .2)) _ (c .before .before .before .before .before .if1 .taken) (c .before .before .put-bytes .ensures))
+    (λ c. let b = c .before .before .before .before .before in let d = b .before in let e = d .before in let f = e .before in let g = f .before .before .before in
+    call-cut (g .args .log .now) (g .args .events) (f .records .result) (f .records .ensures) _ _
+    (call-end (g .args .log .now) (f .records .result) (e .loop .i) (d .loop-test .left) _ _ (e .loop .inv .2)) _ (b .if1 .taken)
+    (c .before .before .put-bytes .ensures))
     (λ c. c .before .before .loop .inv .1)
-    (λ c. call-whole (c .before .before .before .before .before .before .args .log .now) (c .before .before .before .before .before .before .args .events) (c .before .before .before .records .result) (c .before .before .before .records .ensures) _ _ (call-end (c .before .before .before .before .before .before .args .log .now) (c .before .before .before .records .result) (c .before .before .loop .i) (c .before .loop-test .left) _ _ (c .before .before .loop .inv .2)) (c .if1 .left)))
+    (λ c. let b = c .before .before .before in let d = b .before .before .before in
+    call-whole (d .args .log .now) (d .args .events) (b .records .result) (b .records .ensures) _ _
+    (call-end (d .args .log .now) (b .records .result) (c .before .before .loop .i) (c .before .loop-test .left) _ _ (c .before .before .loop .inv .2))
+    (c .if1 .left)))

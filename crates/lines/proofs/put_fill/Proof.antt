@@ -23,5 +23,13 @@ put-fill-spec =
     (λ c κs. search needs)
     (λ c κs. search needs)
     (λ c κs. search needs)
-    (λ c. c .before .before .put-byte .kept .0 ∙ c .before .before .before .before .before .before .put-field5 .kept .0 ∙ c .before .before .before .before .before .before .before .before .before .before .before .put-field4 .kept .0 ∙ c .before .before .before .before .before .before .before .before .before .before .before .before .before .before .before .before .put-field3 .kept .0 ∙ c .before .before .before .before .before .before .before .before .before .before .before .before .before .before .before .before .before .before .before .before .before .put-field2 .kept .0 ∙ c .before .before .before .before .before .before .before .before .before .before .before .before .before .before .before .before .before .before .before .before .before .before .before .before .before .before .put-field .kept .0 ∙ c .before .before .before .before .before .before .before .before .before .before .before .before .before .before .before .before .before .before .before .before .before .before .before .before .before .before .before .before .before .before .before .put-bytes .kept .0)
-    (λ c. rw (all-piece, ← c .before .before .before .before .before .before .before .before .before .before .before .before .before .before .before .before .before .before .before .before .before .before .before .before .before .before .before .before .before .before .before .put-bytes .ensures, ← c .before .before .before .before .before .before .before .before .before .before .before .before .before .before .before .before .before .before .before .before .before .before .before .before .before .before .before .word .ensures, all-piece, ← c .before .before .before .before .before .before .before .before .before .before .before .before .before .before .before .before .before .before .before .before .before .before .before .before .before .before .put-field .ensures, ← c .before .before .before .before .before .before .before .before .before .before .before .before .before .before .before .before .before .before .before .before .before .before .word2 .ensures, all-piece, ← c .before .before .before .before .before .before .before .before .before .before .before .before .before .before .before .before .before .before .before .before .before .put-field2 .ensures, ← c .before .before .before .before .before .before .before .before .before .before .before .before .before .before .before .before .before .word3 .ensures, all-piece, ← c .before .before .before .before .before .before .before .before .before .before .before .before .before .before .before .before .put-field3 .ensures, ← c .before .before .before .before .before .before .before .before .before .before .before .before .word4 .ensures, all-piece, ← c .before .before .before .before .before .before .before .before .before .before .before .put-field4 .ensures, ← c .before .before .before .before .before .before .before .word5 .ensures, all-piece, ← c .before .before .before .before .before .before .put-field5 .ensures, all-piece, ← c .before .before .put-byte .ensures, all-none)))
+    (λ c. let b = c .before .before .before .before .before .before in let d = b .before .before .before .before .before in
+    let e = d .before .before .before .before .before in let f = e .before .before .before .before .before in let g = f .before .before .before .before .before in
+    let h = g .before .before .before .before .before in
+    c .before .before .put-byte .kept .0 ∙ b .put-field5 .kept .0 ∙ d .put-field4 .kept .0 ∙ e .put-field3 .kept .0 ∙ f .put-field2 .kept .0 ∙ g .put-field .kept .0
+    ∙ h .put-bytes .kept .0)
+    (λ c. let b = c .before .before .before .before .before .before in let d = b .before in let e = d .before .before .before .before in let f = e .before in
+    let g = f .before .before .before .before in let h = g .before in let i = h .before .before .before .before in let j = i .before in
+    let k = j .before .before .before .before in let l = k .before in let m = l .before .before .before .before in
+    rw
+    (all-piece, ← m .put-bytes .ensures, ← l .word .ensures, all-piece, ← k .put-field .ensures, ← j .word2 .ensures, all-piece, ← i .put-field2 .ensures, ← h .word3 .ensures, all-piece, ← g .put-field3 .ensures, ← f .word4 .ensures, all-piece, ← e .put-field4 .ensures, ← d .word5 .ensures, all-piece, ← b .put-field5 .ensures, all-piece, ← c .before .before .put-byte .ensures, all-none)))

@@ -33,4 +33,7 @@ put-kind-spec =
     (λ c. c .before .before .put-bytes5 .kept .0)
     (λ c. rw (c .before .before .before .before .before .match .keys5) (c .before .before .put-bytes5 .ensures))
     (λ c. c .before .before .put-bytes6 .kept .0)
-    (λ c. rw (ne-eqb _ _ (c .before .before .before .before .before .match .rest .0 .0 .0 .0 .1), ne-eqb _ _ (c .before .before .before .before .before .match .rest .0 .0 .0 .1), ne-eqb _ _ (c .before .before .before .before .before .match .rest .0 .0 .1), ne-eqb _ _ (c .before .before .before .before .before .match .rest .0 .1), ne-eqb _ _ (c .before .before .before .before .before .match .rest .1)) (c .before .before .put-bytes6 .ensures)))
+    (λ c. let b = c .before .before .before .before .before in
+    rw
+    (ne-eqb _ _ (b .match .rest .0 .0 .0 .0 .1), ne-eqb _ _ (b .match .rest .0 .0 .0 .1), ne-eqb _ _ (b .match .rest .0 .0 .1), ne-eqb _ _ (b .match .rest .0 .1), ne-eqb _ _ (b .match .rest .1))
+    (c .before .before .put-bytes6 .ensures)))

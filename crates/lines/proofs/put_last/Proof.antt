@@ -22,5 +22,13 @@ put-last-spec =
     (λ c κs. search needs)
     (λ c κs. search needs)
     (λ c κs. search needs)
-    (λ c. c .before .before .put-byte .kept .0 ∙ c .before .before .before .before .before .before .put-field3 .kept .0 ∙ c .before .before .before .before .before .before .before .before .before .before .put-bytes3 .kept .0 ∙ c .before .before .before .before .before .before .before .before .before .before .before .before .before .before .before .put-field2 .kept .0 ∙ c .before .before .before .before .before .before .before .before .before .before .before .before .before .before .before .before .before .before .before .put-field .kept .0 ∙ c .before .before .before .before .before .before .before .before .before .before .before .before .before .before .before .before .before .before .before .before .before .before .before .put-bytes2 .kept .0 ∙ c .before .before .before .before .before .before .before .before .before .before .before .before .before .before .before .before .before .before .before .before .before .before .before .before .before .before .before .before .put-signed .kept .0 ∙ c .before .before .before .before .before .before .before .before .before .before .before .before .before .before .before .before .before .before .before .before .before .before .before .before .before .before .before .before .before .before .before .before .put-bytes .kept .0)
-    (λ c. rw (all-piece, ← c .before .before .before .before .before .before .before .before .before .before .before .before .before .before .before .before .before .before .before .before .before .before .before .before .before .before .before .before .before .before .before .before .put-bytes .ensures, all-piece, ← (rw (toZ-ofZ (record { sfits = c .before .before .before .before .before .before .before .before .before .before .before .before .before .before .before .before .before .before .before .before .before .before .before .before .before .before .before .before .before .before .before .before .before .before .before .struct-told .given .0 .1 })) at (c .before .before .before .before .before .before .before .before .before .before .before .before .before .before .before .before .before .before .before .before .before .before .before .before .before .before .before .before .put-signed .ensures)), all-piece, ← c .before .before .before .before .before .before .before .before .before .before .before .before .before .before .before .before .before .before .before .before .before .before .before .put-bytes2 .ensures, all-piece, ← c .before .before .before .before .before .before .before .before .before .before .before .before .before .before .before .before .before .before .before .put-field .ensures, all-piece, ← c .before .before .before .before .before .before .before .before .before .before .before .before .before .before .before .put-field2 .ensures, all-piece, ← c .before .before .before .before .before .before .before .before .before .before .put-bytes3 .ensures, all-piece, ← c .before .before .before .before .before .before .put-field3 .ensures, all-piece, ← c .before .before .put-byte .ensures, all-none)))
+    (λ c. let b = c .before .before .before .before .before .before in let d = b .before .before .before .before in let e = d .before .before .before .before .before in
+    let f = e .before .before .before .before in let g = f .before .before .before .before in let h = g .before .before .before .before .before in
+    let i = h .before .before .before .before in
+    c .before .before .put-byte .kept .0 ∙ b .put-field3 .kept .0 ∙ d .put-bytes3 .kept .0 ∙ e .put-field2 .kept .0 ∙ f .put-field .kept .0 ∙ g .put-bytes2 .kept .0
+    ∙ h .put-signed .kept .0 ∙ i .put-bytes .kept .0)
+    (λ c. let b = c .before .before .before .before .before .before in let d = b .before .before .before .before in let e = d .before .before .before .before .before in
+    let f = e .before .before .before .before in let g = f .before .before .before .before in let h = g .before .before .before .before .before in
+    let i = h .before .before .before .before in let j = i .before .before .before in
+    rw
+    (all-piece, ← i .put-bytes .ensures, all-piece, ← (rw (toZ-ofZ (record { sfits = j .struct-told .given .0 .1 })) at (h .put-signed .ensures)), all-piece, ← g .put-bytes2 .ensures, all-piece, ← f .put-field .ensures, all-piece, ← e .put-field2 .ensures, all-piece, ← d .put-bytes3 .ensures, all-piece, ← b .put-field3 .ensures, all-piece, ← c .before .before .put-byte .ensures, all-none)))

@@ -14,5 +14,7 @@ put-one-spec =
     (λ c κs. search needs)
     (λ c κs. search needs)
     (λ c κs. search needs)
-    (λ c. c .before .before .put-byte .kept .0 ∙ c .before .before .before .before .before .before .put-field .kept .0 ∙ c .before .before .before .before .before .before .before .before .before .before .before .put-bytes .kept .0)
-    (λ c. rw (all-piece, ← c .before .before .before .before .before .before .before .before .before .before .before .put-bytes .ensures, ← c .before .before .before .before .before .before .before .word .ensures, all-piece, ← c .before .before .before .before .before .before .put-field .ensures, all-piece, ← c .before .before .put-byte .ensures, all-none)))
+    (λ c. let b = c .before .before .before .before .before .before in let d = b .before .before .before .before .before in
+    c .before .before .put-byte .kept .0 ∙ b .put-field .kept .0 ∙ d .put-bytes .kept .0)
+    (λ c. let b = c .before .before .before .before .before .before in let d = b .before in let e = d .before .before .before .before in
+    rw (all-piece, ← e .put-bytes .ensures, ← d .word .ensures, all-piece, ← b .put-field .ensures, all-piece, ← c .before .before .put-byte .ensures, all-none)))

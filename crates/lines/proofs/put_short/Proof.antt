@@ -16,5 +16,10 @@ put-short-spec =
     (λ c κs. search needs)
     (λ c κs. search needs)
     (λ c κs. search needs)
-    (λ c. c .before .before .put-byte .kept .0 ∙ c .before .before .before .before .before .before .put-field2 .kept .0 ∙ c .before .before .before .before .before .before .before .before .before .before .before .put-field .kept .0 ∙ c .before .before .before .before .before .before .before .before .before .before .before .before .before .before .before .before .put-bytes .kept .0)
-    (λ c. rw (all-piece, ← c .before .before .before .before .before .before .before .before .before .before .before .before .before .before .before .before .put-bytes .ensures, ← c .before .before .before .before .before .before .before .before .before .before .before .before .word .ensures, all-piece, ← c .before .before .before .before .before .before .before .before .before .before .before .put-field .ensures, ← c .before .before .before .before .before .before .before .word2 .ensures, all-piece, ← c .before .before .before .before .before .before .put-field2 .ensures, all-piece, ← c .before .before .put-byte .ensures, all-none)))
+    (λ c. let b = c .before .before .before .before .before .before in let d = b .before .before .before .before .before in
+    let e = d .before .before .before .before .before in
+    c .before .before .put-byte .kept .0 ∙ b .put-field2 .kept .0 ∙ d .put-field .kept .0 ∙ e .put-bytes .kept .0)
+    (λ c. let b = c .before .before .before .before .before .before in let d = b .before in let e = d .before .before .before .before in let f = e .before in
+    let g = f .before .before .before .before in
+    rw
+    (all-piece, ← g .put-bytes .ensures, ← f .word .ensures, all-piece, ← e .put-field .ensures, ← d .word2 .ensures, all-piece, ← b .put-field2 .ensures, all-piece, ← c .before .before .put-byte .ensures, all-none)))

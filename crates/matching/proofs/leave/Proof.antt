@@ -13,7 +13,12 @@ leave-spec =
     (λ c. search needs)
     (λ c. leave-none _ _ _ _ (c .before .before .remove .result) (c .before .before .remove .ensures) (c .enum-told .given .1))
     (λ c κs. search needs)
-    (λ c. leave-unmarked _ _ _ _ (c .before .before .before .before .before .before .before .remove .result) (c .before .before .before .before .before .before .before .remove .ensures) _ (c .before .before .before .before .before .got .given .1) _ (c .before .before .remove-expiry .ensures) (not-true _ (c .if1 .taken)))
+    (λ c. let b = c .before .before .before .before .before in let d = b .before .before in
+    leave-unmarked _ _ _ _ (d .remove .result) (d .remove .ensures) _ (b .got .given .1) _ (c .before .before .remove-expiry .ensures) (not-true _ (c .if1 .taken)))
     (λ c κs. search needs)
-    (λ c. leave-full _ _ _ _ (c .before .before .before .before .before .before .before .before .before .before .remove .result) (c .before .before .before .before .before .before .before .before .before .before .remove .ensures) _ (c .before .before .before .before .before .before .before .before .got .given .1) _ (c .before .before .before .before .before .remove-expiry .ensures) (not-false _ (c .before .before .before .if1 .left)) (c .before .before .insert-by-id .result) (c .before .before .insert-by-id .ensures) (not-true _ (c .if2 .taken)))
-    (λ c. leave-marked _ _ _ _ (c .before .before .before .before .before .before .before .before .before .before .before .remove .result) (c .before .before .before .before .before .before .before .before .before .before .before .remove .ensures) _ (c .before .before .before .before .before .before .before .before .before .got .given .1) _ (c .before .before .before .before .before .before .remove-expiry .ensures) (not-false _ (c .before .before .before .before .if1 .left)) (c .before .before .before .insert-by-id .result) (c .before .before .before .insert-by-id .ensures) (not-false _ (c .before .if2 .left))))
+    (λ c. let b = c .before .before .before in let d = b .before .before in let e = d .before .before .before in let f = e .before .before in
+    leave-full _ _ _ _ (f .remove .result) (f .remove .ensures) _ (e .got .given .1) _ (d .remove-expiry .ensures) (not-false _ (b .if1 .left))
+    (c .before .before .insert-by-id .result) (c .before .before .insert-by-id .ensures) (not-true _ (c .if2 .taken)))
+    (λ c. let b = c .before .before .before in let d = b .before in let e = d .before .before in let f = e .before .before .before in let g = f .before .before in
+    leave-marked _ _ _ _ (g .remove .result) (g .remove .ensures) _ (f .got .given .1) _ (e .remove-expiry .ensures) (not-false _ (d .if1 .left))
+    (b .insert-by-id .result) (b .insert-by-id .ensures) (not-false _ (c .before .if2 .left))))

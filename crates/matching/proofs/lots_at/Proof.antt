@@ -17,6 +17,12 @@ lots-at-spec =
     (λ c κs. search needs)
     (λ c. search needs)
     (λ c. search needs)
-    (λ c. lots-fail _ _ _ _ _ (c .before .before .before .before .before .before .before .before .get .ensures) _ (c .before .before .before .before .before .before .got .given .1) _ (c .before .before .before .before .matches .ensures) (not-false _ (c .before .before .before .if1 .left)) _ (c .before .before .fill-lots .ensures) (c .enum-told2 .given .1))
-    (λ c. lots-zero _ _ _ _ _ (c .before .before .before .before .before .before .before .before .before .before .get .ensures) _ (c .before .before .before .before .before .before .before .before .got .given .1) _ (c .before .before .before .before .before .before .matches .ensures) (not-false _ (c .before .before .before .before .before .if1 .left)) _ (c .before .before .before .before .fill-lots .ensures) _ (c .before .before .lots .given .1) (c .if2 .taken))
-    (λ c. lots-take _ _ _ _ _ (c .before .before .before .before .before .before .before .before .before .before .get .ensures) _ (c .before .before .before .before .before .before .before .before .got .given .1) _ (c .before .before .before .before .before .before .matches .ensures) (not-false _ (c .before .before .before .before .before .if1 .left)) _ (c .before .before .before .before .fill-lots .ensures) _ (c .before .before .lots .given .1) (c .if2 .left)))
+    (λ c. let b = c .before .before .before in let d = b .before in let e = d .before .before in let f = e .before .before in
+    lots-fail _ _ _ _ _ (f .get .ensures) _ (e .got .given .1) _ (d .matches .ensures) (not-false _ (b .if1 .left)) _ (c .before .before .fill-lots .ensures)
+    (c .enum-told2 .given .1))
+    (λ c. let b = c .before .before .before .before in let d = b .before in let e = d .before in let f = e .before .before in let g = f .before .before in
+    lots-zero _ _ _ _ _ (g .get .ensures) _ (f .got .given .1) _ (e .matches .ensures) (not-false _ (d .if1 .left)) _ (b .fill-lots .ensures) _
+    (c .before .before .lots .given .1) (c .if2 .taken))
+    (λ c. let b = c .before .before .before .before in let d = b .before in let e = d .before in let f = e .before .before in let g = f .before .before in
+    lots-take _ _ _ _ _ (g .get .ensures) _ (f .got .given .1) _ (e .matches .ensures) (not-false _ (d .if1 .left)) _ (b .fill-lots .ensures) _
+    (c .before .before .lots .given .1) (c .if2 .left)))

@@ -27,12 +27,24 @@ sweep-spec =
     (λ c κs. search needs)
     (λ c κs. search needs)
     (λ c. search needs)
-    (λ c. λ s n w. sweep-stop (c .before .before .before .before .before .loop .place) _ _ _ (c .before .before .before .before .before .before .args .orders .count - c .before .before .before .before .before .loop .k) (c .before .before .before .before .before .before .args .orders .count - (c .before .before .before .before .before .loop .k + 1)) (omega arith) _ (c .before .before .before .terminal-at .ensures) (c .before .before .if1 .taken) (c .before .leave .result) (c .before .leave .ensures) (c .match .keys2) s n w ∙ c .before .before .before .before .before .loop .inv .2 s n w)
+    (λ c. let b = c .before .before .before in let d = b .before .before in let e = d .before in
+    λ s n w. sweep-stop (d .loop .place) _ _ _ (e .args .orders .count - d .loop .k) (e .args .orders .count - (d .loop .k + 1)) (omega arith) _
+    (b .terminal-at .ensures) (c .before .before .if1 .taken) (c .before .leave .result) (c .before .leave .ensures) (c .match .keys2) s n w ∙ d .loop .inv .2 s n w)
     (λ c. search needs)
     (λ c. search needs)
-    (λ c. (search needs, search needs, λ s n w. sweep-on (c .before .before .before .before .before .before .before .before .before .loop .place) _ _ _ (c .before .before .before .before .before .before .before .before .before .before .args .orders .count - c .before .before .before .before .before .before .before .before .before .loop .k) (c .before .before .before .before .before .before .before .before .before .before .args .orders .count - (c .before .before .before .before .before .before .before .before .before .loop .k + 1)) (omega arith) _ (c .before .before .before .before .before .before .before .terminal-at .ensures) (c .before .before .before .before .before .before .if1 .taken) (c .before .before .before .before .before .leave .result) (c .before .before .before .before .before .leave .ensures) (c .before .before .before .enum-told .given .1) s n w ∙ c .before .before .before .before .before .before .before .before .before .loop .inv .2 s n w))
+    (λ c. let b = c .before .before .before in let d = b .before .before in let e = d .before in let f = e .before in let g = f .before .before in let h = g .before in (
+      search needs,
+      search needs,
+      λ s n w. sweep-on (g .loop .place) _ _ _ (h .args .orders .count - g .loop .k) (h .args .orders .count - (g .loop .k + 1))
+          (omega arith) _ (f .terminal-at .ensures) (e .if1 .taken) (d .leave .result) (d .leave .ensures) (b .enum-told .given .1) s n w ∙ g .loop .inv .2 s n w,
+    ))
     (λ c. search needs)
     (λ c. search needs)
     (λ c. search needs)
-    (λ c. (search needs, search needs, λ s n w. sweep-past (c .before .before .before .loop .place) _ _ _ (c .before .before .before .before .args .orders .count - c .before .before .before .loop .k) (c .before .before .before .before .args .orders .count - (c .before .before .before .loop .k + 1)) (omega arith) _ (c .before .terminal-at .ensures) (c .if1 .left) s n w ∙ c .before .before .before .loop .inv .2 s n w))
+    (λ c. let b = c .before .before .before in let d = b .before in (
+      search needs,
+      search needs,
+      λ s n w. sweep-past (b .loop .place) _ _ _ (d .args .orders .count - b .loop .k) (d .args .orders .count - (b .loop .k + 1))
+          (omega arith) _ (c .before .terminal-at .ensures) (c .if1 .left) s n w ∙ b .loop .inv .2 s n w,
+    ))
     (λ c. λ s n w. sweep-end (c .before .loop .place) _ _ _ (c .before .before .args .orders .count - c .before .loop .k) (omega arith) s n w ∙ c .before .loop .inv .2 s n w))

@@ -14,12 +14,20 @@ activate-spec =
     (λ c κs. search needs)
     (λ c κs. search needs)
     (λ c. search needs)
-    (λ c. activate-unpriced _ _ _ _ _ _ (c .before .before .before .before .before .before .before .before .before .before .before .checked-add .result) (c .before .before .before .before .before .before .before .before .before .before .before .checked-add .ensures) _ (c .before .before .before .before .before .before .before .before .before .next .given .1) _ (c .before .before .before .before .before .if1 .taken) (c .before .before .before .in-state .ensures) (c .before .before .reject .ensures))
+    (λ c. let b = c .before .before .before in let d = b .before .before in let e = d .before .before .before .before in let f = e .before .before in
+    activate-unpriced _ _ _ _ _ _ (f .checked-add .result) (f .checked-add .ensures) _ (e .next .given .1) _ (d .if1 .taken) (b .in-state .ensures)
+    (c .before .before .reject .ensures))
     (λ c κs. search needs)
     (λ c κs. search needs)
     (λ c. search needs)
-    (λ c. activate-empty _ _ _ _ _ _ (c .before .before .before .before .before .before .before .before .before .before .before .before .before .checked-add .result) (c .before .before .before .before .before .before .before .before .before .before .before .before .before .checked-add .ensures) _ (c .before .before .before .before .before .before .before .before .before .before .before .next .given .1) _ (c .before .before .before .before .before .before .before .if1 .left) (c .before .before .before .before .before .if2 .taken) (c .before .before .before .in-state2 .ensures) (c .before .before .reject2 .ensures))
+    (λ c. let b = c .before .before .before in let d = b .before .before in let e = d .before .before in let f = e .before .before .before .before in
+    let g = f .before .before in
+    activate-empty _ _ _ _ _ _ (g .checked-add .result) (g .checked-add .ensures) _ (f .next .given .1) _ (e .if1 .left) (d .if2 .taken) (b .in-state2 .ensures)
+    (c .before .before .reject2 .ensures))
     (λ c κs. search needs)
     (λ c κs. search needs)
     (λ c. search needs)
-    (λ c. activate-sound _ _ _ _ _ _ (c .before .before .before .before .before .before .before .before .before .before .before .before .before .checked-add .result) (c .before .before .before .before .before .before .before .before .before .before .before .before .before .checked-add .ensures) _ (c .before .before .before .before .before .before .before .before .before .before .before .next .given .1) _ (c .before .before .before .before .before .before .before .if1 .left) (c .before .before .before .before .before .if2 .left) (c .before .before .before .in-state3 .ensures) (c .before .before .accept .ensures)))
+    (λ c. let b = c .before .before .before in let d = b .before .before in let e = d .before .before in let f = e .before .before .before .before in
+    let g = f .before .before in
+    activate-sound _ _ _ _ _ _ (g .checked-add .result) (g .checked-add .ensures) _ (f .next .given .1) _ (e .if1 .left) (d .if2 .left) (b .in-state3 .ensures)
+    (c .before .before .accept .ensures)))

@@ -15,18 +15,31 @@ apply-cancel-spec =
     (λ c. search needs)
     (λ c κs. search needs)
     (λ c. search needs)
-    (λ c. cancel-booked _ _ _ _ _ (c .before .before .before .before .before .before .before .before .before .before .before .before .before .checked-add .result) (c .before .before .before .before .before .before .before .before .before .before .before .before .before .checked-add .ensures) _ (c .before .before .before .before .before .before .before .before .before .before .before .next .given .1) (c .before .before .before .before .before .before .before .booked .result) (c .before .before .before .before .before .before .before .booked .ensures) _ (c .before .before .before .before .before .booked2 .given .1) (c .before .before .cancel-booked .ensures))
+    (λ c. let b = c .before .before .before .before .before in let d = b .before .before in let e = d .before .before .before .before in let f = e .before .before in
+    cancel-booked _ _ _ _ _ (f .checked-add .result) (f .checked-add .ensures) _ (e .next .given .1) (d .booked .result) (d .booked .ensures) _
+    (b .booked2 .given .1) (c .before .before .cancel-booked .ensures))
     (λ c. search needs)
     (λ c κs. search needs)
     (λ c. search needs)
     (λ c κs. search needs)
     (λ c. search needs)
-    (λ c. cancel-pending _ _ _ _ _ (c .before .before .before .before .before .before .before .before .before .before .before .before .before .before .before .before .before .checked-add .result) (c .before .before .before .before .before .before .before .before .before .before .before .before .before .before .before .before .before .checked-add .ensures) _ (c .before .before .before .before .before .before .before .before .before .before .before .before .before .before .before .next .given .1) (c .before .before .before .before .before .before .before .before .before .before .before .booked .result) (c .before .before .before .before .before .before .before .before .before .before .before .booked .ensures) (c .before .before .before .before .before .before .before .before .before .enum-told2 .given .1) (c .before .before .before .before .before .before .before .activation .result) (c .before .before .before .before .before .before .before .activation .ensures) _ (c .before .before .before .before .before .pending .given .1) (c .before .before .cancel-pending .ensures))
+    (λ c. let b = c .before .before .before .before .before in let d = b .before .before in let e = d .before .before in let f = e .before .before in
+    let g = f .before .before .before .before in let h = g .before .before in
+    cancel-pending _ _ _ _ _ (h .checked-add .result) (h .checked-add .ensures) _ (g .next .given .1) (f .booked .result) (f .booked .ensures)
+    (e .enum-told2 .given .1) (d .activation .result) (d .activation .ensures) _ (b .pending .given .1) (c .before .before .cancel-pending .ensures))
     (λ c. search needs)
     (λ c κs. search needs)
     (λ c. search needs)
     (λ c κs. search needs)
     (λ c. search needs)
-    (λ c. cancel-awaiting _ _ _ _ _ (c .before .before .before .before .before .before .before .before .before .before .before .before .before .before .before .before .before .before .before .before .before .checked-add .result) (c .before .before .before .before .before .before .before .before .before .before .before .before .before .before .before .before .before .before .before .before .before .checked-add .ensures) _ (c .before .before .before .before .before .before .before .before .before .before .before .before .before .before .before .before .before .before .before .next .given .1) (c .before .before .before .before .before .before .before .before .before .before .before .before .before .before .before .booked .result) (c .before .before .before .before .before .before .before .before .before .before .before .before .before .before .before .booked .ensures) (c .before .before .before .before .before .before .before .before .before .before .before .before .before .enum-told2 .given .1) (c .before .before .before .before .before .before .before .before .before .before .before .activation .result) (c .before .before .before .before .before .before .before .before .before .before .before .activation .ensures) (c .before .before .before .before .before .before .before .before .before .enum-told3 .given .1) (c .before .before .before .before .before .before .before .position .result) (c .before .before .before .before .before .before .before .position .ensures) _ (c .before .before .before .before .before .late .given .1) (c .before .before .cancel-awaiting .ensures))
+    (λ c. let b = c .before .before .before .before .before in let d = b .before .before in let e = d .before .before in let f = e .before .before in
+    let g = f .before .before in let h = g .before .before in let i = h .before .before .before .before in let j = i .before .before in
+    cancel-awaiting _ _ _ _ _ (j .checked-add .result) (j .checked-add .ensures) _ (i .next .given .1) (h .booked .result) (h .booked .ensures)
+    (g .enum-told2 .given .1) (f .activation .result) (f .activation .ensures) (e .enum-told3 .given .1) (d .position .result) (d .position .ensures) _
+    (b .late .given .1) (c .before .before .cancel-awaiting .ensures))
     (λ c. search needs)
-    (λ c. cancel-unknown _ _ _ _ _ (c .before .before .before .before .before .before .before .before .before .before .before .before .before .before .before .before .checked-add .result) (c .before .before .before .before .before .before .before .before .before .before .before .before .before .before .before .before .checked-add .ensures) _ (c .before .before .before .before .before .before .before .before .before .before .before .before .before .before .next .given .1) (c .before .before .before .before .before .before .before .before .before .before .booked .result) (c .before .before .before .before .before .before .before .before .before .before .booked .ensures) (c .before .before .before .before .before .before .before .before .enum-told2 .given .1) (c .before .before .before .before .before .before .activation .result) (c .before .before .before .before .before .before .activation .ensures) (c .before .before .before .before .enum-told3 .given .1) (c .before .before .position .result) (c .before .before .position .ensures) (c .enum-told4 .given .1)))
+    (λ c. let b = c .before .before .before .before in let d = b .before .before in let e = d .before .before in let f = e .before .before in
+    let g = f .before .before .before .before in let h = g .before .before in
+    cancel-unknown _ _ _ _ _ (h .checked-add .result) (h .checked-add .ensures) _ (g .next .given .1) (f .booked .result) (f .booked .ensures)
+    (e .enum-told2 .given .1) (d .activation .result) (d .activation .ensures) (b .enum-told3 .given .1) (c .before .before .position .result)
+    (c .before .before .position .ensures) (c .enum-told4 .given .1)))

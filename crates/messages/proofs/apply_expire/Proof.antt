@@ -14,7 +14,11 @@ apply-expire-spec =
     (λ c κs. search needs)
     (λ c. search needs)
     (λ c. search needs)
-    (λ c. expire-full _ _ _ _ _ (c .before .before .before .before .before .before .booked .result) (c .before .before .before .before .before .before .booked .ensures) _ (c .before .before .before .before .booked2 .given .1) (c .before .before .checked-add .result) (c .before .before .checked-add .ensures) (c .enum-told2 .given .1))
+    (λ c. let b = c .before .before .before .before in let d = b .before .before in
+    expire-full _ _ _ _ _ (d .booked .result) (d .booked .ensures) _ (b .booked2 .given .1) (c .before .before .checked-add .result)
+    (c .before .before .checked-add .ensures) (c .enum-told2 .given .1))
     (λ c κs. search needs)
     (λ c. search needs)
-    (λ c. expire-found _ _ _ _ _ (c .before .before .before .before .before .before .before .before .before .before .before .before .booked .result) (c .before .before .before .before .before .before .before .before .before .before .before .before .booked .ensures) _ (c .before .before .before .before .before .before .before .before .before .before .booked2 .given .1) (c .before .before .before .before .before .before .before .before .checked-add .result) (c .before .before .before .before .before .before .before .before .checked-add .ensures) _ (c .before .before .before .before .before .before .next .given .1) (c .before .before .expire-booked .ensures)))
+    (λ c. let b = c .before .before .before .before .before .before in let d = b .before .before in let e = d .before .before in let f = e .before .before in
+    expire-found _ _ _ _ _ (f .booked .result) (f .booked .ensures) _ (e .booked2 .given .1) (d .checked-add .result) (d .checked-add .ensures) _
+    (b .next .given .1) (c .before .before .expire-booked .ensures)))

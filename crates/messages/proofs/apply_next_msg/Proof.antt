@@ -18,8 +18,11 @@ apply-next-msg-spec =
     (λ c. search needs)
     (λ c κs. search needs)
     (λ c. search needs)
-    (λ c. next-cancel _ _ _ _ (c .before .before .before .before .before .before .before .before .before .before .before .pop-front .result) (c .before .before .before .before .before .before .before .before .before .before .before .pop-front .ensures) _ (c .before .before .before .before .before .before .before .before .before .got .given .1) _ (c .before .before .before .before .before .kind .given .1) (c .before .before .apply-cancel .ensures))
+    (λ c. let b = c .before .before .before .before .before in let d = b .before .before .before .before in let e = d .before .before in
+    next-cancel _ _ _ _ (e .pop-front .result) (e .pop-front .ensures) _ (d .got .given .1) _ (b .kind .given .1) (c .before .before .apply-cancel .ensures))
     (λ c. search needs)
-    (λ c. next-activate _ _ _ _ (c .before .before .before .before .before .before .before .before .before .before .before .pop-front .result) (c .before .before .before .before .before .before .before .before .before .before .before .pop-front .ensures) _ (c .before .before .before .before .before .before .before .before .before .got .given .1) _ _ (c .before .before .before .before .before .kind2 .given .1) (c .before .before .activation .ensures))
+    (λ c. let b = c .before .before .before .before .before in let d = b .before .before .before .before in let e = d .before .before in
+    next-activate _ _ _ _ (e .pop-front .result) (e .pop-front .ensures) _ (d .got .given .1) _ _ (b .kind2 .given .1) (c .before .before .activation .ensures))
     (λ c. search needs)
-    (λ c. next-expire _ _ _ _ (c .before .before .before .before .before .before .before .before .before .before .before .pop-front .result) (c .before .before .before .before .before .before .before .before .before .before .before .pop-front .ensures) _ (c .before .before .before .before .before .before .before .before .before .got .given .1) _ (c .before .before .before .before .before .kind3 .given .1) (c .before .before .apply-expire .ensures)))
+    (λ c. let b = c .before .before .before .before .before in let d = b .before .before .before .before in let e = d .before .before in
+    next-expire _ _ _ _ (e .pop-front .result) (e .pop-front .ensures) _ (d .got .given .1) _ (b .kind3 .given .1) (c .before .before .apply-expire .ensures)))

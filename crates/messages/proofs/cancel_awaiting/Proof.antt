@@ -14,4 +14,5 @@ cancel-awaiting-spec =
     (λ c κs. search needs)
     (λ c κs. search needs)
     (λ c. search needs)
-    (λ c. awaiting-told _ _ _ _ _ _ (c .before .before .before .before .before .before .before .before .before .remove .result) (c .before .before .before .before .before .before .before .before .before .remove .ensures) _ (c .before .before .before .before .before .before .before .got .given .1) _ (c .before .before .before .before .status-report .ensures) (c .before .before .send .ensures)))
+    (λ c. let b = c .before .before .before .before in let d = b .before .before .before in let e = d .before .before in
+    awaiting-told _ _ _ _ _ _ (e .remove .result) (e .remove .ensures) _ (d .got .given .1) _ (b .status-report .ensures) (c .before .before .send .ensures)))

@@ -14,7 +14,11 @@ reject-spec =
     (λ c κs. search needs)
     (λ c. search needs)
     (λ c. search needs)
-    (λ c. reject-unsent _ _ _ _ _ _ (c .before .before .before .before .before .before .before .before .release-order .result) (c .before .before .before .before .before .before .before .before .release-order .ensures) (c .before .before .before .before .before .before .enum-told .given .1) _ _ (c .before .before .before .before .before .status-report .ensures) (c .before .before .before .send .result) (c .before .before .before .send .ensures) (c .match2 .keys2))
+    (λ c. let b = c .before .before .before in let d = b .before .before in let e = d .before in let f = e .before .before in
+    reject-unsent _ _ _ _ _ _ (f .release-order .result) (f .release-order .ensures) (e .enum-told .given .1) _ _ (d .status-report .ensures) (b .send .result)
+    (b .send .ensures) (c .match2 .keys2))
     (λ c κs. search needs)
     (λ c. search needs)
-    (λ c. reject-sent _ _ _ _ _ _ (c .before .before .before .before .before .before .before .before .before .before .release-order .result) (c .before .before .before .before .before .before .before .before .before .before .release-order .ensures) (c .before .before .before .before .before .before .before .before .enum-told .given .1) _ _ (c .before .before .before .before .before .before .before .status-report .ensures) (c .before .before .before .before .before .send .result) (c .before .before .before .before .before .send .ensures) (c .before .enum-told2 .given .1) (c .await-marked .result) (c .await-marked .ensures)))
+    (λ c. let b = c .before .before .before .before .before in let d = b .before .before in let e = d .before in let f = e .before .before in
+    reject-sent _ _ _ _ _ _ (f .release-order .result) (f .release-order .ensures) (e .enum-told .given .1) _ _ (d .status-report .ensures) (b .send .result)
+    (b .send .ensures) (c .before .enum-told2 .given .1) (c .await-marked .result) (c .await-marked .ensures)))

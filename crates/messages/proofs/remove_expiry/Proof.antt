@@ -12,4 +12,5 @@ remove-expiry-spec =
     (λ c. search needs)
     (λ c. expiry-none _ _ (c .before .before .expiry .result) (c .before .before .expiry .ensures) (c .enum-told .given .1))
     (λ c κs. search needs)
-    (λ c. expiry-gone _ _ (c .before .before .before .before .before .expiry .result) (c .before .before .before .before .before .expiry .ensures) (c .before .before .before .found .given .1) (c .before .remove .result) (c .before .remove .ensures)))
+    (λ c. let b = c .before .before .before in let d = b .before .before in
+    expiry-gone _ _ (d .expiry .result) (d .expiry .ensures) (b .found .given .1) (c .before .remove .result) (c .before .remove .ensures)))

@@ -12,5 +12,9 @@ schedule-spec =
     (λ c. search needs)
     (λ c. schedule-none _ _ _ _ (c .before .before .checked-add .result) (c .before .before .checked-add .ensures) (c .enum-told .given .1))
     (λ c κs. search needs)
-    (λ c. schedule-full _ _ _ _ (c .before .before .before .before .before .before .before .before .checked-add .result) (c .before .before .before .before .before .before .before .before .checked-add .ensures) (c .before .before .before .before .before .before .next .given .1) (c .before .before .insert-by-key .result) (c .before .before .insert-by-key .ensures) (c .if1 .taken))
-    (λ c. schedule-in _ _ _ _ (c .before .before .before .before .before .before .before .before .before .checked-add .result) (c .before .before .before .before .before .before .before .before .before .checked-add .ensures) (c .before .before .before .before .before .before .before .next .given .1) (c .before .before .before .insert-by-key .result) (c .before .before .before .insert-by-key .ensures) (c .before .if1 .left)))
+    (λ c. let b = c .before .before .before .before .before .before in let d = b .before .before in
+    schedule-full _ _ _ _ (d .checked-add .result) (d .checked-add .ensures) (b .next .given .1) (c .before .before .insert-by-key .result)
+    (c .before .before .insert-by-key .ensures) (c .if1 .taken))
+    (λ c. let b = c .before .before .before in let d = b .before .before .before .before in let e = d .before .before in
+    schedule-in _ _ _ _ (e .checked-add .result) (e .checked-add .ensures) (d .next .given .1) (b .insert-by-key .result) (b .insert-by-key .ensures)
+    (c .before .if1 .left)))

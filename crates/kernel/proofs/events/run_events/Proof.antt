@@ -78,7 +78,9 @@ run-events-spec =
     (λ c. let e = c .before .before in let f = e .before .before in let g = f .before .before .before in let h = g .before .before in let i = h .before .before in let j = i .before .before .before .before in let k = j .before .before in
     walk-none (k .args .cfg) (k .args .until) (j .loop .s) (i .next-of .result) (i .next-of .ensures (j .loop .s)) _ _ _ _ (h .next .given .1) (g .max .result) (f .enum-told4 .given .1) (g .max .ensures)
     (e .pop-front .result) (e .pop-front .ensures) (c .enum-told5 .given .1) ∙ j .loop .inv .1)
-    (λ c. c .before .before .before .before .before .hand .kept .0 ∙ c .before .before .before .before .before .before .before .before .before .before .before .before .before .before .before .before .before .before .before .before .before .before .before .before .before .before .loop .inv .0)
+    (λ c. let b = c .before .before .before .before .before in
+    let d = b .before .before .before .before .before .before .before .before .before .before .before .before .before .before .before .before .before .before .before .before .before in
+    b .hand .kept .0 ∙ d .loop .inv .0)
     (λ c. let b = c .before .before .before .before .before in let d = b .before .before .before .before .before .before in let e = d .before .before in let f = e .before .before in let g = f .before .before .before in let h = g .before .before in let i = h .before .before in let j = i .before .before .before .before in let k = j .before .before in
     let u : KernelState = withClock (j .loop .s) (clockNowNs (j .loop .s .clock) (g .max .result)) in
     walk-stops (k .args .cfg) (k .args .until) (j .loop .s) (i .next-of .result) (i .next-of .ensures (j .loop .s)) _ _ _ _ (h .next .given .1) Delivery (g .max .result) (f .enum-told4 .given .1) (g .max .ensures)

@@ -14,6 +14,10 @@ queue-observation-spec =
     (λ c. λ s n w. obs-late w n _ _ _ _ _ _ _ (c .before .before .delayed .result) (c .before .before .delayed .ensures) (c .enum-told .given .1) s)
     (λ c κs. search needs)
     (λ c κs. search needs)
-    (λ c. λ s n w. obs-full w n _ _ _ _ _ _ _ (c .before .before .before .before .before .before .before .delayed .result) (c .before .before .before .before .before .before .before .delayed .ensures) _ _ (c .before .before .push .result) (c .before .before .before .before .before .time .given .1) (c .before .before .before .max .ensures) (c .before .before .push .ensures) (not-true _ (c .if1 .taken)) s)
+    (λ c. let b = c .before .before .before in let d = b .before .before in let e = d .before .before in
+    λ s n w. obs-full w n _ _ _ _ _ _ _ (e .delayed .result) (e .delayed .ensures) _ _ (c .before .before .push .result) (d .time .given .1) (b .max .ensures)
+    (c .before .before .push .ensures) (not-true _ (c .if1 .taken)) s)
     (λ c κs. search needs)
-    (λ c. λ s n w. obs-in w n _ _ _ _ _ _ _ (c .before .before .before .before .before .before .before .before .before .delayed .result) (c .before .before .before .before .before .before .before .before .before .delayed .ensures) _ _ (c .before .before .before .before .push .result) (c .before .before .before .before .before .before .before .time .given .1) (c .before .before .before .before .before .max .ensures) (c .before .before .before .before .push .ensures) (not-false _ (c .before .before .if1 .left)) _ (c .in-phase .ensures) s))
+    (λ c. let b = c .before .before .before .before in let d = b .before in let e = d .before .before in let f = e .before .before in
+    λ s n w. obs-in w n _ _ _ _ _ _ _ (f .delayed .result) (f .delayed .ensures) _ _ (b .push .result) (e .time .given .1) (d .max .ensures) (b .push .ensures)
+    (not-false _ (c .before .before .if1 .left)) _ (c .in-phase .ensures) s))

@@ -14,4 +14,6 @@ queue-fill-lots-spec =
     (λ c. simp (← c .before .saturating-sub .ensures, lt-ltb _ _ (c .if1 .taken)))
     (λ c. simp (← c .before .before .saturating-sub .ensures, le-ltb _ _ (c .before .if1 .left), eq-eqb _ _ (c .if2 .taken)))
     (λ c κs. search needs) (λ c κs. search needs)
-    (λ c. simp (← c .before .before .before .before .saturating-sub .ensures, le-ltb _ _ (c .before .before .before .if1 .left), ne-eqb _ _ (c .before .before .if2 .left), ← c .before .ahead-of .ensures, c .cleared-lots .ensures)))
+    (λ c. let b = c .before .before .before in let d = b .before in
+    simp
+    (← d .saturating-sub .ensures, le-ltb _ _ (b .if1 .left), ne-eqb _ _ (c .before .before .if2 .left), ← c .before .ahead-of .ensures, c .cleared-lots .ensures)))

@@ -13,6 +13,10 @@ queue-delivery-spec =
     (λ c. queue-stop _ _ _ _ _ _ _ _ _ (c .before .before .before .before .report-on .result) (c .before .before .before .before .report-on .ensures) (c .match .keys2))
     (λ c κs. search needs)
     (λ c. search needs)
-    (λ c. queue-in _ _ _ _ _ _ _ _ _ (c .before .before .before .before .before .before .before .before .report-on .result) (c .before .before .before .before .before .before .before .before .report-on .ensures) (c .before .before .before .enum-told .given .1) (c .before .before .push .result) (c .before .before .push .ensures) (c .before .if1 .taken))
+    (λ c. let b = c .before .before .before in let d = b .before .before .before .before .before in
+    queue-in _ _ _ _ _ _ _ _ _ (d .report-on .result) (d .report-on .ensures) (b .enum-told .given .1) (c .before .before .push .result)
+    (c .before .before .push .ensures) (c .before .if1 .taken))
     (λ c. search needs)
-    (λ c. queue-full _ _ _ _ _ _ _ _ _ (c .before .before .before .before .before .before .before .report-on .result) (c .before .before .before .before .before .before .before .report-on .ensures) (c .before .before .enum-told .given .1) (c .before .push .result) (c .before .push .ensures) (c .if1 .left)))
+    (λ c. let b = c .before .before .before .before .before .before .before in
+    queue-full _ _ _ _ _ _ _ _ _ (b .report-on .result) (b .report-on .ensures) (c .before .before .enum-told .given .1) (c .before .push .result)
+    (c .before .push .ensures) (c .if1 .left)))

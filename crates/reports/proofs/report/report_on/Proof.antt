@@ -14,4 +14,5 @@ report-on-spec =
     (λ c κs. search needs)
     (λ c κs. search needs)
     (λ c. search needs)
-    (λ c. report-told _ _ _ _ _ _ (c .before .before .before .before .before .before .before .before .delayed .result) (c .before .before .before .before .before .before .before .before .delayed .ensures) _ _ _ _ (c .before .before .before .before .before .before .time .given .1) (c .before .before .before .before .max .ensures) (c .before .before .emit .ensures)))
+    (λ c. let b = c .before .before .before .before in let d = b .before .before in let e = d .before .before in
+    report-told _ _ _ _ _ _ (e .delayed .result) (e .delayed .ensures) _ _ _ _ (d .time .given .1) (b .max .ensures) (c .before .before .emit .ensures)))

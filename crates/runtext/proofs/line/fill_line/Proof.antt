@@ -17,5 +17,7 @@ fill-line-spec =
     (λ c. search needs)
     (λ c κs. search needs)
     (λ c κs. search needs)
-    (λ c. rw (← c .before .before .before .before .before .before .before .field-at .ensures, ← c .before .before .before .before .before .is-same .ensures, c .before .before .before .before .if1 .left, ← c .before .before .is-same2 .ensures, c .before .if2 .taken, ← c .queue-line .ensures))
-    (λ c. rw (← c .before .before .before .before .before .before .field-at .ensures, ← c .before .before .before .before .is-same .ensures, c .before .before .before .if1 .left, ← c .before .is-same2 .ensures, c .if2 .left)))
+    (λ c. let b = c .before .before .before .before in let d = b .before in let e = d .before .before in
+    rw (← e .field-at .ensures, ← d .is-same .ensures, b .if1 .left, ← c .before .before .is-same2 .ensures, c .before .if2 .taken, ← c .queue-line .ensures))
+    (λ c. let b = c .before .before .before in let d = b .before in let e = d .before .before in
+    rw (← e .field-at .ensures, ← d .is-same .ensures, b .if1 .left, ← c .before .is-same2 .ensures, c .if2 .left)))

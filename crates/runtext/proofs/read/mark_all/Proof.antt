@@ -29,5 +29,11 @@ mark-all-spec =
     (λ c. omega (arith, c .before .before .before .loop .inv .1))
     (λ c. omega arith)
     (λ c. omega arith)
-    (λ c. (omega arith, c .before .before .before .loop .inv .1, c .before .before .before .loop .inv .2, map-turn (marked (c .before .before .before .before .args .id)) blankMsg (c .before .before .before .loop .i) (c .before .before .before .before .args .msgs .slots) (c .before .before .before .loop .next .slots) (c .mark .result) (omega (arith, c .before .before .before .loop .inv .1)) (c .before .before .before .loop .inv .3) (c .mark .ensures)))
+    (λ c. let b = c .before .before .before in let d = b .before in (
+      omega arith,
+      b .loop .inv .1,
+      b .loop .inv .2,
+      map-turn (marked (d .args .id)) blankMsg (b .loop .i) (d .args .msgs .slots) (b .loop .next .slots)
+          (c .mark .result) (omega (arith, b .loop .inv .1)) (b .loop .inv .3) (c .mark .ensures),
+    ))
     (λ c. marked-all _ _ _ (map-done (marked (c .before .before .args .id)) (c .before .loop .i) (c .before .before .args .msgs .slots) (c .before .loop .next .slots) (omega (arith, c .before .loop .inv .1)) (c .before .loop .inv .3)) (c .before .loop .inv .2)))

@@ -27,19 +27,36 @@ read-spec =
     (λ c κs. search needs)
     (λ c. omega (arith, c .before .loop .inv .1, c .before .loop .inv .2))
     (λ c κs. search needs)
-    (λ c. read-done (c .before .before .before .before .before .before .before .before .args .text .now) (c .before .before .before .before .before .before .before .before .args .rows .now) _ (c .before .before .before .before .before .before .blank-reading .ensures) (c .before .before .before .before .loop .inv .2) _ (c .before .before .before .before .loop .inv .3) _ _ _ _ (c .script-of2 .ensures) (read-unended (c .before .before .before .before .before .before .before .before .args .text .now) (c .before .before .before .before .loop .at) (c .before .before .before .piece-end .result) (c .before .before .before .before .loop .n) (c .before .before .before .before .loop .r) (c .before .before .before .before .loop .rows) (c .before .before .before .piece-end .ensures) (c .before .before .before .before .loop .inv .0) (c .before .before .if2 .taken) (c .before .if3 .taken)))
+    (λ c. let b = c .before .before .before in let d = b .before in let e = d .before .before in let f = e .before .before in
+    read-done (f .args .text .now) (f .args .rows .now) _ (e .blank-reading .ensures) (d .loop .inv .2) _ (d .loop .inv .3) _ _ _ _ (c .script-of2 .ensures)
+    (read-unended (f .args .text .now) (d .loop .at) (b .piece-end .result) (d .loop .n) (d .loop .r) (d .loop .rows) (b .piece-end .ensures) (d .loop .inv .0) (c .before .before .if2 .taken) (c .before .if3 .taken)))
     (λ c κs. search needs)
-    (λ c. read-done (c .before .before .before .before .before .before .before .before .before .args .text .now) (c .before .before .before .before .before .before .before .before .before .args .rows .now) _ (c .before .before .before .before .before .before .before .blank-reading .ensures) (c .before .before .before .before .before .loop .inv .2) _ (c .before .before .before .before .before .loop .inv .3) _ _ _ _ (c .script-of3 .ensures) (read-absent (c .before .before .before .before .before .before .before .before .before .args .text .now) (c .before .before .before .before .before .loop .at) (c .before .before .before .before .piece-end .result) (c .before .before .before .before .before .loop .n) (c .before .before .before .before .before .loop .r) (c .before .before .before .before .before .loop .rows) (c .before .before .before .before .piece-end .ensures) (c .before .before .before .before .before .loop .inv .0) (c .before .before .before .if2 .taken) (c .before .before .if3 .left) (c .before .if4 .taken)))
+    (λ c. let b = c .before .before .before in let d = b .before in let e = d .before in let f = e .before .before in let g = f .before .before in
+    read-done (g .args .text .now) (g .args .rows .now) _ (f .blank-reading .ensures) (e .loop .inv .2) _ (e .loop .inv .3) _ _ _ _ (c .script-of3 .ensures)
+    (read-absent (g .args .text .now) (e .loop .at) (d .piece-end .result) (e .loop .n) (e .loop .r) (e .loop .rows) (d .piece-end .ensures) (e .loop .inv .0) (b .if2 .taken) (c .before .before .if3 .left) (c .before .if4 .taken)))
     (λ c κs. search needs)
-    (λ c. read-done (c .before .before .before .before .before .before .before .before .before .args .text .now) (c .before .before .before .before .before .before .before .before .before .args .rows .now) _ (c .before .before .before .before .before .before .before .blank-reading .ensures) (c .before .before .before .before .before .loop .inv .2) _ (c .before .before .before .before .before .loop .inv .3) _ _ _ _ (c .script-of4 .ensures) (read-whole (c .before .before .before .before .before .before .before .before .before .args .text .now) (c .before .before .before .before .before .loop .at) (c .before .before .before .before .piece-end .result) (c .before .before .before .before .before .loop .n) (c .before .before .before .before .before .loop .r) (c .before .before .before .before .before .loop .rows) (c .before .before .before .before .piece-end .ensures) (c .before .before .before .before .before .loop .inv .0) (c .before .before .before .if2 .taken) (c .before .before .if3 .left) (c .before .if4 .left)))
+    (λ c. let b = c .before .before .before in let d = b .before in let e = d .before in let f = e .before .before in let g = f .before .before in
+    read-done (g .args .text .now) (g .args .rows .now) _ (f .blank-reading .ensures) (e .loop .inv .2) _ (e .loop .inv .3) _ _ _ _ (c .script-of4 .ensures)
+    (read-whole (g .args .text .now) (e .loop .at) (d .piece-end .result) (e .loop .n) (e .loop .r) (e .loop .rows) (d .piece-end .ensures) (e .loop .inv .0) (b .if2 .taken) (c .before .before .if3 .left) (c .before .if4 .left)))
     (λ c. omega (arith, c .before .piece-end .ensures))
     (λ c. omega (arith, c .before .piece-end .ensures))
     (λ c. omega arith)
     (λ c κs. search needs)
     (λ c κs. search needs)
     (λ c κs. search needs)
-    (λ c. read-done (c .before .before .before .before .before .before .before .before .before .before .before .before .before .args .text .now) (c .before .before .before .before .before .before .before .before .before .before .before .before .before .args .rows .now) _ (c .before .before .before .before .before .before .before .before .before .before .before .blank-reading .ensures) (c .before .before .before .before .before .before .before .before .before .loop .inv .2) _ (c .before .before .before .before .before .before .before .before .before .loop .inv .3) _ _ _ _ (c .script-of5 .ensures) (read-bad (c .before .before .before .before .before .before .before .before .before .before .before .before .before .args .text .now) (c .before .before .before .before .before .before .before .before .before .loop .at) (c .before .before .before .before .before .before .before .before .piece-end .result) (c .before .before .before .before .before .before .before .before .before .loop .n) (c .before .before .before .before .before .before .before .before .before .loop .r) (c .before .before .before .before .before .before .before .before .before .loop .rows) (c .before .before .before .before .before .before .before .before .piece-end .ensures) (c .before .before .before .before .before .before .before .if2 .left) _ (c .before .before .before .before .before .line-of .ensures) (c .before .before .before .take-line .result) _ (c .before .before .before .take-line .ensures) (not-true (c .before .before .before .take-line .result .ok) (c .before .if5 .taken))))
+    (λ c. let b = c .before .before .before in let d = b .before .before in let e = d .before .before in let f = e .before in let g = f .before in
+    let h = g .before .before in let i = h .before .before in
+    read-done (i .args .text .now) (i .args .rows .now) _ (h .blank-reading .ensures) (g .loop .inv .2) _ (g .loop .inv .3) _ _ _ _ (c .script-of5 .ensures)
+    (read-bad (i .args .text .now) (g .loop .at) (f .piece-end .result) (g .loop .n) (g .loop .r) (g .loop .rows) (f .piece-end .ensures) (e .if2 .left) _ (d .line-of .ensures) (b .take-line .result) _ (b .take-line .ensures) (not-true (b .take-line .result .ok) (c .before .if5 .taken))))
     (λ c. omega (arith, c .before .before .before .before .before .before .before .before .before .loop .inv .1, c .before .before .before .before .before .before .before .before .before .loop .inv .2))
     (λ c. omega (arith, c .before .before .before .before .before .before .before .before .before .loop .inv .2))
     (λ c. omega (arith, c .before .before .before .before .before .before .before .before .piece-end .ensures))
-    (λ c. (omega arith, omega (arith, c .before .before .before .before .before .before .before .before .piece-end .ensures), c .before .before .before .before .before .before .before .before .before .loop .inv .2, c .before .before .before .before .before .before .before .before .before .loop .inv .3 ∙ read-next (c .before .before .before .before .before .before .before .before .before .before .before .before .before .args .text .now) (c .before .before .before .before .before .before .before .before .before .loop .at) (c .before .before .before .before .before .before .before .before .piece-end .result) (c .before .before .before .before .before .before .before .before .before .loop .n) (c .before .before .before .before .before .before .before .before .before .loop .r) (c .before .before .before .before .before .before .before .before .before .loop .rows) (c .before .before .before .before .before .before .before .before .piece-end .ensures) (c .before .before .before .before .before .before .before .if2 .left) _ (c .before .before .before .before .before .line-of .ensures) (c .before .before .before .take-line .result) _ (c .before .before .before .take-line .ensures) (not-false (c .before .before .before .take-line .result .ok) (c .before .if5 .left)))))
+    (λ c. let b = c .before .before .before in let d = b .before .before in let e = d .before .before in let f = e .before in let g = f .before in
+    let h = g .before .before .before .before in (
+      omega arith,
+      omega (arith, f .piece-end .ensures),
+      g .loop .inv .2,
+      g .loop .inv .3 ∙ read-next (h .args .text .now) (g .loop .at) (f .piece-end .result)
+          (g .loop .n) (g .loop .r) (g .loop .rows) (f .piece-end .ensures) (e .if2 .left) _ (d .line-of .ensures) (b .take-line .result) _ (b .take-line .ensures)
+          (not-false (b .take-line .result .ok) (c .before .if5 .left)),
+    )))

@@ -18,10 +18,19 @@ reserve-spec =
     (λ c κs. search needs)
     (λ c. search needs)
     (λ c. search needs)
-    (λ c. reserve-over (c .before .before .before .before .before .before .before .args .lots) _ _ _ (c .before .before .before .before .before .before .checked-add .ensures) _ (c .before .before .before .before .both .given .1) _ (c .before .before .checked-add2 .ensures) (c .enum-told3 .given .1))
+    (λ c. let b = c .before .before .before .before in let d = b .before .before in let e = d .before in
+    reserve-over (e .args .lots) _ _ _ (d .checked-add .ensures) _ (b .both .given .1) _ (c .before .before .checked-add2 .ensures) (c .enum-told3 .given .1))
     (λ c. search needs)
-    (λ c. omega (arith, reserve-sum (c .before .before .before .before .before .before .before .before .before .before .args .lots) (c .before .before .before .before .before .before .before .before .before .before .args .side) (c .before .before .before .before .before .before .before .before .before .before .args .qty) _ (c .before .before .before .before .before .before .before .before .before .checked-add .ensures) _ (c .before .before .before .before .before .before .before .both .given .1) _ (c .before .before .before .before .before .checked-add2 .ensures) _ (c .before .before .before .enum-told2 .given .1)))
+    (λ c. let b = c .before .before .before in let d = b .before .before in let e = d .before .before in let f = e .before .before in let g = f .before in
+    omega
+    (arith, reserve-sum (g .args .lots) (g .args .side) (g .args .qty) _ (f .checked-add .ensures) _ (e .both .given .1) _ (d .checked-add2 .ensures) _ (b .enum-told2 .given .1)))
     (λ c. search needs)
-    (λ c. omega (arith, reserve-sum (c .before .before .before .before .before .before .before .before .before .before .args .lots) (c .before .before .before .before .before .before .before .before .before .before .args .side) (c .before .before .before .before .before .before .before .before .before .before .args .qty) _ (c .before .before .before .before .before .before .before .before .before .checked-add .ensures) _ (c .before .before .before .before .before .before .before .both .given .1) _ (c .before .before .before .before .before .checked-add2 .ensures) _ (c .before .before .before .enum-told2 .given .1)))
-    (λ c. rw (c .before .enum-told4 .given .1) (reserve-in (c .before .before .before .before .before .before .before .before .before .before .args .lots) Buy (c .before .before .before .before .before .before .before .before .before .before .args .qty) _ (c .before .before .before .before .before .before .before .before .before .checked-add .ensures) _ (c .before .before .before .before .before .before .before .both .given .1) _ (c .before .before .before .before .before .checked-add2 .ensures) _ (c .before .before .before .enum-told2 .given .1)))
-    (λ c. rw (c .before .enum-told5 .given .1) (reserve-in (c .before .before .before .before .before .before .before .before .before .before .args .lots) Sell (c .before .before .before .before .before .before .before .before .before .before .args .qty) _ (c .before .before .before .before .before .before .before .before .before .checked-add .ensures) _ (c .before .before .before .before .before .before .before .both .given .1) _ (c .before .before .before .before .before .checked-add2 .ensures) _ (c .before .before .before .enum-told2 .given .1))))
+    (λ c. let b = c .before .before .before in let d = b .before .before in let e = d .before .before in let f = e .before .before in let g = f .before in
+    omega
+    (arith, reserve-sum (g .args .lots) (g .args .side) (g .args .qty) _ (f .checked-add .ensures) _ (e .both .given .1) _ (d .checked-add2 .ensures) _ (b .enum-told2 .given .1)))
+    (λ c. let b = c .before .before .before in let d = b .before .before in let e = d .before .before in let f = e .before .before in let g = f .before in
+    rw (c .before .enum-told4 .given .1)
+    (reserve-in (g .args .lots) Buy (g .args .qty) _ (f .checked-add .ensures) _ (e .both .given .1) _ (d .checked-add2 .ensures) _ (b .enum-told2 .given .1)))
+    (λ c. let b = c .before .before .before in let d = b .before .before in let e = d .before .before in let f = e .before .before in let g = f .before in
+    rw (c .before .enum-told5 .given .1)
+    (reserve-in (g .args .lots) Sell (g .args .qty) _ (f .checked-add .ensures) _ (e .both .given .1) _ (d .checked-add2 .ensures) _ (b .enum-told2 .given .1))))

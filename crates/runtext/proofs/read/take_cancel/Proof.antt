@@ -16,5 +16,9 @@ take-cancel-spec =
     (λ c κs. search needs)
     (λ c κs. search needs)
     (λ c κs. search needs)
-    (λ c. rw (c .refused2 .ensures, ← c .before .before .before .before .before .before .before .is-message-due .ensures, not-false (c .before .before .before .before .before .before .before .is-message-due .result) (c .before .before .before .before .before .before .if1 .left), ← c .before .before .before .before .mark-all .ensures, ← c .before .before .before .insert-by-key .ensures, not-true (c .before .before .before .insert-by-key .result .ok) (c .before .if2 .taken)))
-    (λ c. rw (← c .before .before .before .before .before .before .before .is-message-due .ensures, not-false (c .before .before .before .before .before .before .before .is-message-due .result) (c .before .before .before .before .before .before .if1 .left), ← c .before .before .before .before .mark-all .ensures, ← c .before .before .before .insert-by-key .ensures, not-false (c .before .before .before .insert-by-key .result .ok) (c .before .if2 .left))))
+    (λ c. let b = c .before .before .before in let d = b .before in let e = d .before .before in let f = e .before in
+    rw
+    (c .refused2 .ensures, ← f .is-message-due .ensures, not-false (f .is-message-due .result) (e .if1 .left), ← d .mark-all .ensures, ← b .insert-by-key .ensures, not-true (b .insert-by-key .result .ok) (c .before .if2 .taken)))
+    (λ c. let b = c .before .before .before in let d = b .before in let e = d .before .before in let f = e .before in
+    rw
+    (← f .is-message-due .ensures, not-false (f .is-message-due .result) (e .if1 .left), ← d .mark-all .ensures, ← b .insert-by-key .ensures, not-false (b .insert-by-key .result .ok) (c .before .if2 .left))))

@@ -17,11 +17,21 @@ take-order-spec =
     (λ c. search needs)
     (λ c. search needs)
     (λ c κs. search needs)
-    (λ c. rw (c .refused2 .ensures, ← c .before .before .before .before .before .before .is-message-due .ensures, not-false (c .before .before .before .before .before .before .is-message-due .result) (c .before .before .before .before .before .if1 .left), ← c .before .before .before .reserve .ensures, c .before .enum-told .given .1))
+    (λ c. let b = c .before .before .before in let d = b .before .before in let e = d .before in
+    rw
+    (c .refused2 .ensures, ← e .is-message-due .ensures, not-false (e .is-message-due .result) (d .if1 .left), ← b .reserve .ensures, c .before .enum-told .given .1))
     (λ c κs. search needs)
     (λ c κs. search needs)
-    (λ c. rw (c .refused3 .ensures, ← c .before .before .before .before .before .before .before .before .before .before .before .is-message-due .ensures, not-false (c .before .before .before .before .before .before .before .before .before .before .before .is-message-due .result) (c .before .before .before .before .before .before .before .before .before .before .if1 .left), ← c .before .before .before .before .before .before .before .before .reserve .ensures, c .before .before .before .before .before .before .kept .given .1, ← c .before .before .before .push .ensures, not-true (c .before .before .before .push .result .ok) (c .before .if2 .taken)))
+    (λ c. let b = c .before .before .before in let d = b .before .before .before in let e = d .before .before in let f = e .before .before in let g = f .before in
+    rw
+    (c .refused3 .ensures, ← g .is-message-due .ensures, not-false (g .is-message-due .result) (f .if1 .left), ← e .reserve .ensures, d .kept .given .1, ← b .push .ensures, not-true (b .push .result .ok) (c .before .if2 .taken)))
     (λ c κs. search needs)
     (λ c κs. search needs)
-    (λ c. rw (c .refused4 .ensures, ← c .before .before .before .before .before .before .before .before .before .before .before .before .before .before .before .is-message-due .ensures, not-false (c .before .before .before .before .before .before .before .before .before .before .before .before .before .before .before .is-message-due .result) (c .before .before .before .before .before .before .before .before .before .before .before .before .before .before .if1 .left), ← c .before .before .before .before .before .before .before .before .before .before .before .before .reserve .ensures, c .before .before .before .before .before .before .before .before .before .before .kept .given .1, ← c .before .before .before .before .before .before .before .push .ensures, not-false (c .before .before .before .before .before .before .before .push .result .ok) (c .before .before .before .before .before .if2 .left), ← c .before .before .before .insert-by-key .ensures, not-true (c .before .before .before .insert-by-key .result .ok) (c .before .if3 .taken)))
-    (λ c. rw (← c .before .before .before .before .before .before .before .before .before .before .before .before .before .before .before .before .is-message-due .ensures, not-false (c .before .before .before .before .before .before .before .before .before .before .before .before .before .before .before .before .is-message-due .result) (c .before .before .before .before .before .before .before .before .before .before .before .before .before .before .before .if1 .left), ← c .before .before .before .before .before .before .before .before .before .before .before .before .before .reserve .ensures, c .before .before .before .before .before .before .before .before .before .before .before .kept .given .1, ← c .before .before .before .before .before .before .before .before .push .ensures, not-false (c .before .before .before .before .before .before .before .before .push .result .ok) (c .before .before .before .before .before .before .if2 .left), ← c .before .before .before .before .insert-by-key .ensures, not-false (c .before .before .before .before .insert-by-key .result .ok) (c .before .before .if3 .left))))
+    (λ c. let b = c .before .before .before in let d = b .before .before in let e = d .before .before in let f = e .before .before .before in
+    let g = f .before .before in let h = g .before .before in let i = h .before in
+    rw
+    (c .refused4 .ensures, ← i .is-message-due .ensures, not-false (i .is-message-due .result) (h .if1 .left), ← g .reserve .ensures, f .kept .given .1, ← e .push .ensures, not-false (e .push .result .ok) (d .if2 .left), ← b .insert-by-key .ensures, not-true (b .insert-by-key .result .ok) (c .before .if3 .taken)))
+    (λ c. let b = c .before .before .before .before in let d = b .before .before in let e = d .before .before in let f = e .before .before .before in
+    let g = f .before .before in let h = g .before .before in let i = h .before in
+    rw
+    (← i .is-message-due .ensures, not-false (i .is-message-due .result) (h .if1 .left), ← g .reserve .ensures, f .kept .given .1, ← e .push .ensures, not-false (e .push .result .ok) (d .if2 .left), ← b .insert-by-key .ensures, not-false (b .insert-by-key .result .ok) (c .before .before .if3 .left))))

@@ -22,13 +22,21 @@ field-at-spec =
     (λ c. (omega arith, refl))
     (λ c κs. search needs)
     (λ c. omega arith)
-    (λ c. sym (c .before .before .before .before .loop .inv .1 ∙ field-none 32 (c .before .before .before .before .before .before .args .l .now) (c .before .before .before .before .loop .at) (c .before .before .piece-end .result) (c .before .before .piece-end .ensures) (c .before .before .before .before .loop .left) (omega arith) (omega arith) (omega arith)))
+    (λ c. let b = c .before .before .before .before in let d = b .before .before in
+    sym
+    (b .loop .inv .1 ∙ field-none 32 (d .args .l .now) (b .loop .at) (c .before .before .piece-end .result) (c .before .before .piece-end .ensures) (b .loop .left) (omega arith) (omega arith) (omega arith)))
     (λ c. omega arith)
     (λ c. omega arith)
     (λ c. omega arith)
-    (λ c. (omega arith, c .before .before .before .loop .inv .1 ∙ field-next 32 (c .before .before .before .before .before .args .l .now) (c .before .before .before .loop .at) (c .before .piece-end .result) (c .before .piece-end .ensures) (c .before .before .before .loop .left) (omega arith) (omega arith)))
+    (λ c. let b = c .before .before .before in let d = b .before .before in (
+      omega arith,
+      b .loop .inv .1 ∙ field-next 32 (d .args .l .now) (b .loop .at) (c .before .piece-end .result) (c .before .piece-end .ensures) (b .loop .left)
+          (omega arith) (omega arith),
+    ))
     (λ c κs. search needs)
     (λ c. omega (arith, c .piece-end2 .ensures))
     (λ c. omega (arith, c .piece-end2 .ensures))
     (λ c. omega (arith, c .piece-end2 .ensures, end-most 32 (c .before .before .before .before .args .l .now) (c .before .before .loop .at) (c .piece-end2 .result) (c .piece-end2 .ensures) (omega arith)))
-    (λ c. sym (c .before .before .before .loop .inv .1 ∙ field-here 32 (c .before .before .before .before .before .args .l .now) (c .before .before .before .loop .at) (c .before .piece-end2 .result) (c .before .piece-end2 .ensures) (c .before .before .before .loop .left) (omega arith))))
+    (λ c. let b = c .before .before .before in let d = b .before .before in
+    sym
+    (b .loop .inv .1 ∙ field-here 32 (d .args .l .now) (b .loop .at) (c .before .piece-end2 .result) (c .before .piece-end2 .ensures) (b .loop .left) (omega arith))))

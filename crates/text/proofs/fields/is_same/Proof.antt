@@ -21,8 +21,10 @@ is-same-spec =
     (λ c. (omega arith, refl))
     (λ c. omega arith)
     (λ c. omega arith)
-    (λ c. sym (c .before .before .before .before .loop .inv .1 ∙ same-miss (c .before .before .before .before .before .before .args .a .now) (c .before .before .before .before .before .before .args .b .now) (c .before .before .before .before .loop .i) (omega arith) (omega arith) (c .if2 .taken)))
+    (λ c. let b = c .before .before .before .before in let d = b .before .before in
+    sym (b .loop .inv .1 ∙ same-miss (d .args .a .now) (d .args .b .now) (b .loop .i) (omega arith) (omega arith) (c .if2 .taken)))
     (λ c. omega arith)
     (λ c. omega arith)
-    (λ c. (omega arith, c .before .before .before .before .loop .inv .1 ∙ same-hit (c .before .before .before .before .before .before .args .a .now) (c .before .before .before .before .before .before .args .b .now) (c .before .before .before .before .loop .i) (omega arith) (omega arith) (c .if2 .left)))
+    (λ c. let b = c .before .before .before .before in let d = b .before .before in
+    (omega arith, b .loop .inv .1 ∙ same-hit (d .args .a .now) (d .args .b .now) (b .loop .i) (omega arith) (omega arith) (c .if2 .left)))
     (λ c. sym (c .before .loop .inv .1 ∙ same-end (c .before .before .before .args .a .now) (c .before .before .before .args .b .now) (c .before .loop .i) (omega arith) (omega arith))))

@@ -27,10 +27,18 @@ number-spec =
     (λ c. digit-least _ (sym (c .before .is-digit .ensures) ∙ not-false _ (c .if3 .left)))
     (λ c. omega (arith, c .before .before .shared-slice-known2 .given (c .before .before .before .before .loop .i)))
     (λ c. omega (arith, c .before .before .shared-slice-known2 .given (c .before .before .before .before .loop .i)))
-    (λ c. count-over _ (c .before .before .before .before .before .loop .inv) (c .before .before .before .before .loop-test .taken) (sym (c .before .before .is-digit .ensures) ∙ not-false _ (c .before .if3 .left)) (omega (arith, digit-most (getD (c .before .before .before .before .before .before .before .before .before .args .f .now) (c .before .before .before .before .before .loop .i) 0) (sym (c .before .before .is-digit .ensures) ∙ not-false _ (c .before .if3 .left)), c .if4 .taken)))
-    (λ c. omega (arith, digit-most (getD (c .before .before .before .before .before .before .before .before .before .args .f .now) (c .before .before .before .before .before .loop .i) 0) (sym (c .before .before .is-digit .ensures) ∙ not-false _ (c .before .if3 .left)), c .if4 .left))
-    (λ c. omega (arith, digit-most (getD (c .before .before .before .before .before .before .before .before .before .args .f .now) (c .before .before .before .before .before .loop .i) 0) (sym (c .before .before .is-digit .ensures) ∙ not-false _ (c .before .if3 .left)), c .if4 .left))
+    (λ c. let b = c .before .before .before .before in let d = b .before in let e = d .before .before .before .before in
+    count-over _ (d .loop .inv) (b .loop-test .taken) (sym (c .before .before .is-digit .ensures) ∙ not-false _ (c .before .if3 .left))
+    (omega (arith, digit-most (getD (e .args .f .now) (d .loop .i) 0) (sym (c .before .before .is-digit .ensures) ∙ not-false _ (c .before .if3 .left)), c .if4 .taken)))
+    (λ c. let b = c .before .before .before .before .before in let d = b .before .before .before .before in
+    omega
+    (arith, digit-most (getD (d .args .f .now) (b .loop .i) 0) (sym (c .before .before .is-digit .ensures) ∙ not-false _ (c .before .if3 .left)), c .if4 .left))
+    (λ c. let b = c .before .before .before .before .before in let d = b .before .before .before .before in
+    omega
+    (arith, digit-most (getD (d .args .f .now) (b .loop .i) 0) (sym (c .before .before .is-digit .ensures) ∙ not-false _ (c .before .if3 .left)), c .if4 .left))
     (λ c. omega arith)
     (λ c. omega arith)
-    (λ c. count-turn _ (c .before .before .before .before .before .loop .inv) (c .before .before .before .before .loop-test .taken) (sym (c .before .before .is-digit .ensures) ∙ not-false _ (c .before .if3 .left)) (omega (arith, digit-most (getD (c .before .before .before .before .before .before .before .before .before .args .f .now) (c .before .before .before .before .before .loop .i) 0) (sym (c .before .before .is-digit .ensures) ∙ not-false _ (c .before .if3 .left)), c .if4 .left)))
+    (λ c. let b = c .before .before .before .before in let d = b .before in let e = d .before .before .before .before in
+    count-turn _ (d .loop .inv) (b .loop-test .taken) (sym (c .before .before .is-digit .ensures) ∙ not-false _ (c .before .if3 .left))
+    (omega (arith, digit-most (getD (e .args .f .now) (d .loop .i) 0) (sym (c .before .before .is-digit .ensures) ∙ not-false _ (c .before .if3 .left)), c .if4 .left)))
     (λ c. count-done _ (c .before .loop .inv) (c .loop-test .left)))

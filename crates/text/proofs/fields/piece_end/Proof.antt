@@ -20,8 +20,10 @@ piece-end-spec =
     tie.close (tie.spec Inv-loop μ-loop
     (λ c. refl)
     (λ c. omega arith)
-    (λ c. omega (arith, c .before .before .before .loop .inv, before-hit (c .before .before .before .before .args .stop) (c .before .before .before .before .args .s .now) (c .before .before .before .loop .i) (c .before .before .loop-test .taken) (c .if1 .taken)))
+    (λ c. let b = c .before .before .before in let d = b .before in
+    omega (arith, b .loop .inv, before-hit (d .args .stop) (d .args .s .now) (b .loop .i) (c .before .before .loop-test .taken) (c .if1 .taken)))
     (λ c. omega arith)
     (λ c. omega arith)
-    (λ c. omega (arith, c .before .before .before .loop .inv, before-miss (c .before .before .before .before .args .stop) (c .before .before .before .before .args .s .now) (c .before .before .before .loop .i) (c .before .before .loop-test .taken) (c .if1 .left)))
+    (λ c. let b = c .before .before .before in let d = b .before in
+    omega (arith, b .loop .inv, before-miss (d .args .stop) (d .args .s .now) (b .loop .i) (c .before .before .loop-test .taken) (c .if1 .left)))
     (λ c. omega (arith, c .before .loop .inv, before-end (c .before .before .args .stop) (c .before .before .args .s .now) (c .before .loop .i) (c .loop-test .left))))

@@ -35,4 +35,5 @@ pub +put-number-spec : {M : Type 1} → statement M
     (λ c κs. (omega (arith, c .before .before .before .pre .0, c .before .if1 .left), tt))
     (λ c κs. search needs)
     (λ c. c .before .before .put-byte2 .kept .0 ∙ c .before .before .before .before .before .before .put-number .kept .0)
-    (λ c. number-more _ _ _ (c .before .before .before .before .before .before .before .before .before .before .args .n) _ (c .before .before .before .before .before .before .before .before .if1 .left) refl (c .before .before .before .before .before .before .put-number .ensures) (c .before .before .put-byte2 .ensures))
+    (λ c. let b = c .before .before .before .before .before .before in let d = b .before .before in let e = d .before .before in
+    number-more _ _ _ (e .args .n) _ (d .if1 .left) refl (b .put-number .ensures) (c .before .before .put-byte2 .ensures))

@@ -23,6 +23,10 @@ put-bytes-spec =
     (λ c κs. search needs)
     (λ c. omega arith)
     (λ c. omega arith)
-    (λ c. (c .before .before .put-byte .kept .0 ∙ c .before .before .before .before .before .before .loop .inv .0, text-turn _ _ _ (c .before .before .before .before .before .before .before .before .before .args .s .now) (c .before .before .before .before .before .before .loop .i) (c .before .before .before .before .before .loop-test .taken) (c .before .before .put-byte .ensures) (c .before .before .before .before .before .before .loop .inv .1)))
+    (λ c. let b = c .before .before .before .before .before in let d = b .before in let e = d .before .before .before in (
+      c .before .before .put-byte .kept .0 ∙ d .loop .inv .0,
+      text-turn _ _ _ (e .args .s .now) (d .loop .i) (b .loop-test .taken)
+          (c .before .before .put-byte .ensures) (d .loop .inv .1),
+    ))
     (λ c. c .before .loop .inv .0)
     (λ c. text-end _ _ (c .before .before .before .before .args .s .now) (c .before .loop .i) (c .loop-test .left) (c .before .loop .inv .1)))

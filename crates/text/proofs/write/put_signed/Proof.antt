@@ -14,8 +14,10 @@ put-signed-spec =
     (λ c. below-more (c .before .before .before .before .before .before .before .args .n) (c .before .before .before .before .before .before .before .fits .n) (c .before .before .before .before .before .if1 .taken))
     (λ c κs. search needs)
     (λ c. c .before .before .put-number .kept .0 ∙ c .before .before .before .before .before .before .put-byte .kept .0)
-    (λ c. below-text (c .before .before .before .before .before .before .before .before .before .before .args .n) (c .before .before .before .before .before .before .before .before .before .before .fits .n) (c .before .before .before .before .before .before .before .before .if1 .taken) _ _ _ (c .before .before .before .before .before .before .put-byte .ensures) (c .before .before .put-number .ensures))
+    (λ c. let b = c .before .before .before .before .before .before in let d = b .before .before in let e = d .before .before in
+    below-text (e .args .n) (e .fits .n) (d .if1 .taken) _ _ _ (b .put-byte .ensures) (c .before .before .put-number .ensures))
     (λ c. above-cast (c .before .before .before .args .n) (c .before .before .before .fits .n) (c .before .if1 .left))
     (λ c κs. search needs)
     (λ c. c .before .before .put-number2 .kept .0)
-    (λ c. above-text (c .before .before .before .before .before .before .args .n) (c .before .before .before .before .before .before .fits .n) (c .before .before .before .before .if1 .left) _ _ (c .before .before .put-number2 .ensures)))
+    (λ c. let b = c .before .before .before .before in let d = b .before .before in
+    above-text (d .args .n) (d .fits .n) (b .if1 .left) _ _ (c .before .before .put-number2 .ensures)))

@@ -1,5 +1,5 @@
 -- `advance`: one law for each way out. The count of a call's events is exact, for a call never raises 2^64 − 1 of them. Assumes nothing.
-use Prim.Native.Nat.{ℕ, suc, _+_, _-_, _%_, _^_, _<_, _≤_}
+use Prim.Native.Nat.{ℕ, _+_, _-_, _%_, _^_, _<_}
 use mathlib.Core.Bool.{true, false}
 use mathlib.Core.List.{List, [], _∷_, _++_}
 use mathlib.Core.Logic.{⊎-elim}
@@ -21,10 +21,10 @@ use Rattle.rules.specs.Log.{written}
 use Rattle.rules.specs.Phases.{phases}
 use Rattle.rules.specs.Calls as calls
 use Rattle.rules.proofs.Bound.{events-bound}
-use Rattle.kernel.specs.Told.{answerTold, advanceTold}
+use Rattle.kernel.specs.Told.{advanceTold}
 use Rattle.reports.specs.Log.{Log, logAt, note, noted, told, Seen, played, seen}
 use Rattle.reports.specs.declared.Outcome.{Outcome}
-use Rattle.reports.specs.declared.Outcome.the-variants.{Ran, Left, Halt, Ended}
+use Rattle.reports.specs.declared.Outcome.the-variants.{Ran, Halt}
 use Rattle.kernel.specs.declared.Answer.the-variants as answer
 use Rattle.kernel.specs.declared.Advanced.{Advanced}
 use Rattle.reports.specs.declared.Step.{Step}

@@ -26,7 +26,7 @@ use Rattle.rules.specs.Run as rules
 use Rattle.rules.specs.Events as walk
 use Rattle.rules.proofs.Falls.{event-falls, walk-again, walk-last}
 use Rattle.reports.specs.Log.{logAt, note, noted, played, seen}
-use Rattle.kernel.specs.Events.{classTold, nextTold, truncated, pausedAt, withLooked, lookedIn}
+use Rattle.kernel.specs.Events.{classTold, nextTold, withLooked, lookedIn}
 use Rattle.reports.specs.declared.Outcome.the-variants.{Ran, Left}
 use Rattle.reports.specs.declared.Step.{Step}
 use Rattle.kernel.specs.declared.events.Class.{Class}
@@ -46,14 +46,14 @@ module _ (w : List ℕ) (n now : ℕ) (cfg : Config) (control : Control) (observ
   pop-none h s = rw (← p, h) (played-ran (logAt w n) (withLooked s now control observed agent))
 
   module _ (e : ObsEntry) (h : t .got ≡ obs.Some e) where
-    pub pop-over : (over : Control) → cfg .«s_max» ≤ control .step → over ≡ truncated control → (s : KernelState)
+    pub pop-over : (over : Control) → cfg .«s_max» ≤ control .step → over ≡ walk.truncated control → (s : KernelState)
         → seen (lookedIn s now (record { outcome = Left; control = over; observed = t .list; agent = agent; raised = n })) w
         ≡ played (logAt w n) (walk.popObservation cfg (withLooked s now control observed agent))
     unfolding walk.popObservation rules.taking onSome pick played noted
     pop-over over l o s = rw (← p, h, le-leb _ _ l, o)
 
     pub pop-pauses : (w1 : List ℕ) (m : ℕ) (paused : Control) → control .step < cfg .«s_max»
-        → logAt w1 m ≡ note (logAt w n) (event.Observed (e .row) now) → paused ≡ pausedAt control → (s : KernelState)
+        → logAt w1 m ≡ note (logAt w n) (event.Observed (e .row) now) → paused ≡ walk.pausedAt control → (s : KernelState)
         → seen (lookedIn s now (record { outcome = Left; control = paused; observed = t .list; agent = agentLastObsRow agent (u64.Some (e .row)); raised = m })) w1
         ≡ played (logAt w n) (walk.popObservation cfg (withLooked s now control observed agent))
     unfolding walk.popObservation rules.taking onSome pick played noted

@@ -33,15 +33,15 @@ use Rattle.models.specs.declared.latency.Arrival.{Arrival}
 use Rattle.rules.specs.Run as rules
 use Rattle.rules.specs.Report.{delay, delayed}
 use Rattle.rules.specs.Matching.{matchFrom, sweep, sweepFrom, marked, matchRow}
-use Rattle.rules.specs.Events.{nextOf, eventTurn, clockTo, weight, popObservation, runEvents}
+use Rattle.rules.specs.Events.{nextOf, eventTurn, clockTo, weight, truncated, popObservation, runEvents}
 use Rattle.rules.specs.Delivery.{closeData, endOfData}
-use Rattle.rules.specs.Phases.{rowAt, queueObservation, matchPhase, beforeMatch, settleRow, settle, nextRow, obsQueued, phaseTurn, turns, phases}
+use Rattle.rules.specs.Phases.{rowAt, queueObservation, matchPhase, beforeMatch, settleRow, settle, toRow, nextRow, obsQueued, phaseTurn, turns, phases}
 use Rattle.rules.proofs.Cases.{word-case}
 use Rattle.rules.proofs.Falls.{event-falls, walk-last}
 use Rattle.rules.proofs.Fewer.{phase-falls, phases-again, phases-last}
 use Rattle.reports.specs.Log.{Log, logAt, note, noted, told, Seen, played, seen}
-use Rattle.kernel.specs.Events.{nextTold, truncated}
-use Rattle.kernel.specs.Phases.{withObs, obsIn, toRow, workOn, worked, turnBy, onwardTo}
+use Rattle.kernel.specs.Events.{nextTold}
+use Rattle.kernel.specs.Phases.{withObs, obsIn, workOn, worked, turnBy, onwardTo}
 use Rattle.matching.specs.Matching.{matchedIn, withSwept, sweptIn}
 use Rattle.reports.specs.declared.Outcome.{Outcome}
 use Rattle.reports.specs.declared.Outcome.the-variants.{Ran, Halt}

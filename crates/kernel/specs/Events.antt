@@ -1,14 +1,12 @@
 -- The next event as the rules say it, and the parts of the state that an observation changes.
 use Prim.Native.Nat.{ℕ}
-use Rattle.book.specs.With.{withControl, withClock, withMsgs, withDeliveries, withObserved, withAgent, controlPhase, controlResume, controlStatus, clockNowNs}
+use Rattle.book.specs.With.{withControl, withClock, withMsgs, withDeliveries, withObserved, withAgent, clockNowNs}
 use Rattle.book.specs.declared.deliveries.Deliveries.{Deliveries}
 use Rattle.book.specs.declared.msgs.Msgs.{Msgs}
 use Rattle.book.specs.declared.observed.Observed.{Observed}
 use Rattle.book.specs.declared.state.AgentView.{AgentView}
 use Rattle.book.specs.declared.state.Control.{Control}
 use Rattle.book.specs.declared.state.KernelState.{KernelState}
-use Rattle.book.specs.declared.state.Phase.the-variants as phase
-use Rattle.book.specs.declared.state.Status.the-variants as status
 use Rattle.rules.specs.Events as walk
 use Rattle.reports.specs.declared.Step.{Step}
 use Rattle.kernel.specs.declared.events.Class.{Class}
@@ -28,12 +26,6 @@ nextTold (next.At k t) = walk.next (classTold k) t
 
 abbrev pub withQueues : KernelState → Msgs → Deliveries → Observed → KernelState
 withQueues s m d o = withObserved (withDeliveries (withMsgs s m) d) o
-
-abbrev pub truncated : Control → Control
-truncated c = controlStatus (controlPhase c phase.Terminal) status.Truncated
-
-abbrev pub pausedAt : Control → Control
-pausedAt c = controlPhase (controlResume c (c .phase)) phase.AwaitDecision
 
 abbrev pub withLooked : KernelState → ℕ → Control → Observed → AgentView → KernelState
 withLooked s now c o a = withAgent (withObserved (withControl (withClock s (clockNowNs (s .clock) now)) c) o) a

@@ -2,9 +2,8 @@
 use Prim.Native.Nat.{ℕ}
 use mathlib.Core.List.{List}
 use mathlib.Core.Option.{Option, none, some}
-use Rattle.numbers.specs.declared.MaybeU64.the-variants as u64
 use Rattle.lists.specs.Lists.{onSome}
-use Rattle.book.specs.With.{withControl, withClock, withRngLatency, withObserved, controlPhase, controlCursor, controlCurRow}
+use Rattle.book.specs.With.{withControl, withClock, withRngLatency, withObserved}
 use Rattle.book.specs.declared.config.Config.{Config}
 use Rattle.book.specs.declared.config.KernelTick.{KernelTick}
 use Rattle.book.specs.declared.config.MaybeTick.{MaybeTick}
@@ -14,7 +13,6 @@ use Rattle.book.specs.declared.state.Clock.{Clock}
 use Rattle.book.specs.declared.state.Control.{Control}
 use Rattle.book.specs.declared.state.HaltReason.the-variants.{CounterOverflow}
 use Rattle.book.specs.declared.state.KernelState.{KernelState}
-use Rattle.book.specs.declared.state.Phase.the-variants as phase
 use Rattle.rules.specs.Run.{Run, ranTo, haltAt, andThen, Turn, again, last}
 use Rattle.rules.specs.Delivery.{endOfData}
 use Rattle.rules.specs.Phases.{matchPhase, settleRow, nextRow}
@@ -30,9 +28,6 @@ use Rattle.kernel.specs.declared.phases.Work.the-variants as work
 abbrev pub tickTold : MaybeTick → Option KernelTick
 tickTold tick.None = none
 tickTold (tick.Some t) = some t
-
-abbrev pub toRow : Control → ℕ → Control
-toRow c n = controlPhase (controlCursor (controlCurRow c (u64.Some (c .cursor))) n) phase.BeforeMatch
 
 abbrev pub withObs : KernelState → ℕ → Clock → Observed → Control → KernelState
 withObs s g c o k = withControl (withObserved (withClock (withRngLatency s g) c) o) k

@@ -21,10 +21,10 @@ use reports::Step;
 use reports::log::emit;
 ghost use mathlib.Core.Path.{_≡_};
 ghost use Rattle.book.specs.declared.state.KernelState.{KernelState};
-ghost use Rattle.rules.specs.Events.{popObservation, dueBy, sooner, nextMsg, nextDelivery, nextObservation, nextOf, runEvents};
+ghost use Rattle.rules.specs.Events.{truncated, pausedAt, popObservation, dueBy, sooner, nextMsg, nextDelivery, nextObservation, nextOf, runEvents};
 ghost use Rattle.book.specs.With.{withMsgs, withDeliveries, withObserved};
 ghost use Rattle.reports.specs.Log.{logAt, played, seen};
-ghost use Rattle.kernel.specs.Events.{classTold, nextTold, truncated, pausedAt, lookedIn, withLooked, withQueues};
+ghost use Rattle.kernel.specs.Events.{classTold, nextTold, lookedIn, withLooked, withQueues};
 
 // Event classes, in their order at equal times.
 pub enum Class {

@@ -35,9 +35,9 @@ ghost use Prim.Native.Nat.{ℕ};
 ghost use Rattle.book.specs.With.{controlPhase, withControl};
 ghost use Rattle.book.specs.declared.state.KernelState.{KernelState};
 ghost use Rattle.book.specs.declared.config.Config.{Config};
-ghost use Rattle.rules.specs.Phases.{rowAt, queueObservation, nextRow, phaseTurn, phases};
+ghost use Rattle.rules.specs.Phases.{rowAt, queueObservation, toRow, nextRow, phaseTurn, phases};
 ghost use Rattle.reports.specs.Log.{logAt, played, seen};
-ghost use Rattle.kernel.specs.Phases.{tickTold, obsIn, withObs, toRow, workOn, turnBy, onwardTo};
+ghost use Rattle.kernel.specs.Phases.{tickTold, obsIn, withObs, workOn, turnBy, onwardTo};
 
 // What queueing an observation changes of the state.
 pub struct ObsStep {

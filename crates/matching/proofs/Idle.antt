@@ -20,8 +20,8 @@ use Rattle.book.specs.declared.config.Config.{Config}
 use Rattle.book.specs.declared.config.KernelTick.{KernelTick}
 use Rattle.book.specs.declared.orders.Orders.{Orders}
 use Rattle.book.specs.declared.state.KernelState.{KernelState}
-use Rattle.rules.specs.Run.{Run, ranTo, andThen}
-use Rattle.rules.specs.Matching.{matches, matchAt, matchFrom, terminalAt, sweepFrom, sweep}
+use Rattle.rules.specs.Run.{ranTo, andThen}
+use Rattle.rules.specs.Matching.{matches, Fills, fillsOf, fillsAt, filling, matchAt, matchFrom, terminalAt, sweepFrom, sweep}
 use Rattle.matching.specs.Matching.{stirs, busy}
 
 -- ---- a search that finds none: no entry fits
@@ -78,8 +78,8 @@ module _ (row : KernelTick) (o : VenueOrder) (h : stirs row o ≡ false) where
 -- ---- the pass and the sweep
 module _ (c : Config) (row : KernelTick) (s : KernelState) (h : busy row (s .orders) ≡ false) where
   match-still : (i : ℕ) → matchAt c row i s ≡ ranTo s
-  unfolding matchAt pick
-  match-still i = some-case (λ (r : Run). r ≡ ranTo s) _ _ _ (λ o e. rw (unmatched row o (still row (s .orders) h i o e))) (λ _. refl)
+  unfolding matchAt fillsAt fillsOf pick
+  match-still i = some-case (λ (f : Fills). filling c i s f ≡ ranTo s) _ _ _ (λ o e. rw (unmatched row o (still row (s .orders) h i o e))) (λ _. refl)
 
   terminal-none : (i : ℕ) → terminalAt i s ≡ false
   unfolding terminalAt

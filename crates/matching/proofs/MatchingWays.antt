@@ -3,18 +3,15 @@ use Prim.Native.Nat.{ℕ, suc, _+_, _*_, _≤_, _<_}
 use mathlib.Core.Bool.{Bool, true, false}
 use mathlib.Core.List.{List}
 use mathlib.Core.Logic.{inl, inr}
-use mathlib.Core.Option.{Option, none, some}
+use mathlib.Core.Option.{none, some}
 use mathlib.Core.Path.{_≡_, refl, sym, ap, _∙_, subst}
-use native.Mathlib.Omega.{arith}
-use lib.Dec.{eqb}
 use lib.ListN.{length, set}
-use borrow.Author.Tests.{eq-eqb, ne-eqb, leb-true, ltb-true}
+use borrow.Author.Tests.{eq-eqb, ne-eqb}
 use Rattle.numbers.specs.Choice.{pick}
 use Rattle.numbers.specs.Words.{fitting, onWord}
 use Rattle.numbers.specs.declared.MaybeU64.{MaybeU64}
 use Rattle.numbers.specs.declared.MaybeU64.the-variants as u64
 use Rattle.lists.specs.Lists.{onSome, live, foundIn, entryAt, takeAt, storeAt, putBefore}
-use Rattle.lists.proofs.Cases.{pick-case, some-case}
 use Rattle.lists.proofs.Ways.{put-full, push-in, store-in}
 use Rattle.book.specs.Entries.{blankOrder, remaining, inState, isTerminal, idAbove}
 use Rattle.book.specs.Rows.{ordersRow, ordersOf, ordersPut, ordersTaken, orderIn, deliveriesRow}
@@ -28,7 +25,6 @@ use Rattle.book.specs.declared.ReportRec.{ReportRec}
 use Rattle.book.specs.declared.VenueOrder.{VenueOrder}
 use Rattle.book.specs.declared.config.Config.{Config}
 use Rattle.book.specs.declared.config.FillMode.{FillMode}
-use Rattle.book.specs.declared.config.FillMode.the-variants.{Immediate, QueuePosition}
 use Rattle.book.specs.declared.config.KernelTick.{KernelTick}
 use Rattle.book.specs.declared.deliveries.Deliveries.{Deliveries}
 use Rattle.book.specs.declared.msgs.Msgs.{Msgs}
@@ -48,8 +44,8 @@ use Rattle.models.specs.declared.gate.Gated.the-variants.{Fail, Kept}
 use Rattle.rules.specs.Run as rules
 use Rattle.rules.specs.Report.{stamp, pushDelivery, reportAt, reported, queueDelivery}
 use Rattle.rules.specs.Messages.{removeExpiry, await, awaitMarked}
-use Rattle.rules.specs.Matching.{matches, queueFillLots, fillLots, gateFilled, filledBy, recordAt, fillKind, fillRecord, fillReport, fillCounted, fillEvent, fillAt, matchOrder, matchAt, matchFrom, leave, terminalAt, sweepFrom, marked}
-use Rattle.rules.proofs.HeldMatching.{lots-most}
+use Rattle.rules.specs.Matching.{matches, fillLots, gateFilled, filledBy, recordAt, fillKind, fillRecord, fillReport, fillCounted, fillEvent, fillAt, no-fill, fills, fails, fillsOf, fillsAt, filling, matchAt, matchFrom, leave, terminalAt, sweepFrom, marked}
+use Rattle.rules.proofs.HeldMatching.{There, fills-there}
 use Rattle.reports.specs.Log.{logAt, note, noted, Seen, played, seen}
 use Rattle.reports.specs.Report.{withReport, reportedIn}
 use Rattle.reports.specs.declared.Outcome.the-variants.{Ran, Halt}
@@ -57,7 +53,7 @@ use Rattle.reports.specs.declared.Step.{Step}
 use Rattle.reports.specs.declared.report.Reported.{Reported}
 use Rattle.reports.proofs.ReportWays.{push-of}
 use Rattle.reports.proofs.Then.{played-ran, Stopped, then-ran, then-stop, then-on, fits-none, fits-some}
-use Rattle.matching.specs.Matching.{withVenue, filledIn, withMatched, matchedIn, stirs, busy, Fills, none-there, fills, fails, lotsTold, lotsAt, withSwept, sweptIn}
+use Rattle.matching.specs.Matching.{withVenue, filledIn, withMatched, matchedIn, stirs, busy, lotsTold, withSwept, sweptIn}
 use Rattle.matching.specs.declared.Filled.{Filled}
 use Rattle.matching.specs.declared.Lots.{Lots}
 use Rattle.matching.specs.declared.Lots.the-variants as lots
@@ -150,131 +146,49 @@ telling c i o n s u = queueDelivery c (fillReport s o n) (fill.Some (fillRecord 
 
 -- ---- what a row fills at a place
 module _ (mode : FillMode) (row : KernelTick) (os : Orders) (i : ℕ) (got : MaybeOrder) (e : orderIn got ≡ entryAt 8 blankOrder i (ordersRow os)) where
-  pub lots-empty : got ≡ found.None → none-there ≡ lotsAt mode row os i
-  unfolding lotsAt onSome
+  pub lots-empty : got ≡ found.None → no-fill ≡ fillsAt mode row i os
+  unfolding fillsAt fillsOf onSome
   lots-empty h = rw (← e, h)
 
   module _ (o : VenueOrder) (h : got ≡ found.Some o) (t : Bool) (em : t ≡ matches row o) where
-    pub lots-unmatched : t ≡ false → none-there ≡ lotsAt mode row os i
-    unfolding lotsAt onSome pick
+    pub lots-unmatched : t ≡ false → no-fill ≡ fillsAt mode row i os
+    unfolding fillsAt fillsOf onSome pick
     lots-unmatched m = rw (← e, h, ← em, m)
 
     module _ (m : t ≡ true) (ls : MaybeU64) (el : ls ≡ fillLots mode row o) where
-      pub lots-fail : ls ≡ u64.None → fails ≡ lotsAt mode row os i
-      unfolding lotsAt onSome pick onWord
+      pub lots-fail : ls ≡ u64.None → fails ≡ fillsAt mode row i os
+      unfolding fillsAt fillsOf onSome pick onWord
       lots-fail k = rw (← e, h, ← em, m, ← el, k)
 
-      pub lots-zero : (n : ℕ) → ls ≡ u64.Some n → n ≡ 0 → none-there ≡ lotsAt mode row os i
-      unfolding lotsAt onSome pick onWord
+      pub lots-zero : (n : ℕ) → ls ≡ u64.Some n → n ≡ 0 → no-fill ≡ fillsAt mode row i os
+      unfolding fillsAt fillsOf onSome pick onWord
       lots-zero n k z = rw (← e, h, ← em, m, ← el, k, eq-eqb n 0 z)
 
-      pub lots-take : (n : ℕ) → ls ≡ u64.Some n → (n ≡ 0 → ⊥) → fills o n ≡ lotsAt mode row os i
-      unfolding lotsAt onSome pick onWord
+      pub lots-take : (n : ℕ) → ls ≡ u64.Some n → (n ≡ 0 → ⊥) → fills o n ≡ fillsAt mode row i os
+      unfolding fillsAt fillsOf onSome pick onWord
       lots-take n k z = rw (← e, h, ← em, m, ← el, k, ne-eqb n 0 z)
 
 -- ---- the pass over the orders
--- what is filled is no more than remains
-Within : Fills → Type 0
-Within none-there = Unit {0}
-Within (fills o n) = n ≤ remaining o
-Within fails = Unit {0}
-
--- a number of lots, if not 0
-abbrev taking-of : VenueOrder → MaybeU64 → Fills
-taking-of o m = onWord m (λ n. pick (eqb n 0) none-there (fills o n)) fails
-
-some-within : (o : VenueOrder) (n : ℕ) → n ≤ remaining o → Within (taking-of o (u64.Some n))
-unfolding Within onWord
-some-within o n h = pick-case Within (eqb n 0) _ _ (λ _. tt) (λ _. h)
-
-fill-within : (mode : FillMode) (row : KernelTick) (o : VenueOrder) → Within (taking-of o (fillLots mode row o))
-unfolding Within queueFillLots onWord
-fill-within Immediate row o = some-within o (remaining o) (omega arith)
-fill-within (QueuePosition rate per least) row o =
-    let P : MaybeU64 → Type 0 = λ m. Within (taking-of o m) in
-    pick-case P _ _ _ (λ _. some-within o 0 (omega arith)) (λ _. pick-case P _ _ _ (λ _. tt) (λ _. some-within o _ (lots-most _ o)))
-
-at-within : (mode : FillMode) (row : KernelTick) (os : Orders) (i : ℕ) → Within (lotsAt mode row os i)
-unfolding Within lotsAt
-at-within mode row os i = some-case Within _ _ _ (λ o _. pick-case Within _ _ _ (λ _. fill-within mode row o) (λ _. tt)) (λ _. tt)
-
-module _ (mode : FillMode) (row : KernelTick) (os : Orders) (i : ℕ) (r : Lots) (e : lotsTold r ≡ lotsAt mode row os i) where
-  pub take-within : (o : VenueOrder) (n : ℕ) → r ≡ lots.Take o n → n ≤ remaining o
-  unfolding Within
-  take-within o n h = subst Within (sym e ∙ ap lotsTold h) (at-within mode row os i)
-
--- what is filled is a live order
-There : Orders → ℕ → Fills → Type 0
-There os i none-there = Unit {0}
-There os i (fills o n) = (os .count ≤ 8) × (i < os .count)
-There os i fails = Unit {0}
-
-entry-there : (os : Orders) (i : ℕ) (o : VenueOrder) → entryAt 8 blankOrder i (ordersRow os) ≡ some o → (os .count ≤ 8) × (i < os .count)
-unfolding entryAt
-entry-there os i o =
-    let P : Option VenueOrder → Type 0 = λ x. x ≡ some o → (os .count ≤ 8) × (i < os .count) in
-    pick-case P _ _ _ (λ a. pick-case P _ _ _ (λ b _. (leb-true _ _ a, ltb-true _ _ b)) (λ _ e. let z : _≡_ {A = ℕ} 0 1 = cc in absurd (omega arith))) (λ _ e. let z : _≡_ {A = ℕ} 0 1 = cc in absurd (omega arith))
-
-all-there : (os : Orders) (i : ℕ) (f : Fills) → (os .count ≤ 8) × (i < os .count) → There os i f
-unfolding There
-all-there os i none-there h = tt
-all-there os i (fills o n) h = h
-all-there os i fails h = tt
-
-at-there : (mode : FillMode) (row : KernelTick) (os : Orders) (i : ℕ) → There os i (lotsAt mode row os i)
-unfolding lotsAt There
-at-there mode row os i = some-case (There os i) _ _ _ (λ o e. all-there os i (pick (matches row o) (taking-of o (fillLots mode row o)) none-there) (entry-there os i o e)) (λ _. tt)
-
-module _ (mode : FillMode) (row : KernelTick) (os : Orders) (i : ℕ) (r : Lots) (e : lotsTold r ≡ lotsAt mode row os i) where
-  pub take-there : (o : VenueOrder) (n : ℕ) → r ≡ lots.Take o n → (os .count ≤ 8) × (i < os .count)
-  unfolding There
-  take-there o n h = subst (There os i) (sym e ∙ ap lotsTold h) (at-there mode row os i)
-
--- what a row does at a place, by what it fills there
-matchBy : Config → ℕ → KernelState → Fills → rules.Run
-matchBy c i s none-there = rules.ranTo s
-matchBy c i s (fills o n) = fillAt c i o n s
-matchBy c i s fails = rules.haltAt CounterOverflow s
-
-match-by : (c : Config) (row : KernelTick) (i : ℕ) (s : KernelState) → matchAt c row i s ≡ matchBy c i s (lotsAt (c .fill) row (s .orders) i)
-unfolding matchBy matchAt matchOrder lotsAt
-match-by c row i s = by-order (entryAt 8 blankOrder i (ordersRow (s .orders)))
-  where
-    by-zero : (o : VenueOrder) (n : ℕ) (b : Bool) → pick b (rules.ranTo s) (fillAt c i o n s) ≡ matchBy c i s (pick b none-there (fills o n))
-    by-zero o n true = unfold pick in refl
-    by-zero o n false = unfold pick in refl
-
-    by-lots : (o : VenueOrder) (m : MaybeU64)
-        → onWord m (λ n. pick (eqb n 0) (rules.ranTo s) (fillAt c i o n s)) (rules.haltAt CounterOverflow s) ≡ matchBy c i s (taking-of o m)
-    by-lots o u64.None = unfold onWord in refl
-    by-lots o (u64.Some n) = unfold onWord in by-zero o n (eqb n 0)
-
-    by-match : (o : VenueOrder) (b : Bool)
-        → pick b (onWord (fillLots (c .fill) row o) (λ n. pick (eqb n 0) (rules.ranTo s) (fillAt c i o n s)) (rules.haltAt CounterOverflow s)) (rules.ranTo s) ≡ matchBy c i s (pick b (taking-of o (fillLots (c .fill) row o)) none-there)
-    by-match o true = unfold pick in by-lots o (fillLots (c .fill) row o)
-    by-match o false = unfold pick in refl
-
-    by-order : (x : Option VenueOrder)
-        → onSome x (λ o. pick (matches row o) (onWord (fillLots (c .fill) row o) (λ n. pick (eqb n 0) (rules.ranTo s) (fillAt c i o n s)) (rules.haltAt CounterOverflow s)) (rules.ranTo s)) (rules.ranTo s)
-        ≡ matchBy c i s (onSome x (λ o. pick (matches row o) (taking-of o (fillLots (c .fill) row o)) none-there) none-there)
-    by-order none = unfold onSome in refl
-    by-order (some o) = unfold onSome in by-match o (matches row o)
+-- what is filled is the live order at that place, and no more of it than remains
+module _ (mode : FillMode) (row : KernelTick) (os : Orders) (i : ℕ) (r : Lots) (e : lotsTold r ≡ fillsAt mode row i os) where
+  pub take-there : (o : VenueOrder) (n : ℕ) → r ≡ lots.Take o n → There i os (fills o n)
+  take-there o n h = subst (There i os) (sym e ∙ ap lotsTold h) (fills-there mode row i os)
 
 -- a turn of the pass: q orders are left, j behind this one
 module _ (w : List ℕ) (raised : ℕ) (cfg : Config) (row : KernelTick) (i : ℕ) (v : Venue) (os : Orders) (ds : Deliveries) (q j : ℕ) (hq : q ≡ suc j)
-    (r : Lots) (e : lotsTold r ≡ lotsAt (cfg .fill) row os i) where
-  turn-is : (s : KernelState) → matchFrom cfg row q i (withMatched s v os ds) ≡ rules.andThen (matchBy cfg i (withMatched s v os ds) (lotsTold r)) (matchFrom cfg row j (i + 1))
-  unfolding matchFrom
-  turn-is s = rw (hq, match-by cfg row i (withMatched s v os ds), ← e)
+    (r : Lots) (e : lotsTold r ≡ fillsAt (cfg .fill) row i os) where
+  turn-is : (s : KernelState) → matchFrom cfg row q i (withMatched s v os ds) ≡ rules.andThen (filling cfg i (withMatched s v os ds) (lotsTold r)) (matchFrom cfg row j (i + 1))
+  unfolding matchFrom matchAt
+  turn-is s = rw (hq, ← e)
 
   pub match-past : r ≡ lots.Nothing → (s : KernelState)
       → played (logAt w raised) (matchFrom cfg row j (i + 1) (withMatched s v os ds)) ≡ played (logAt w raised) (matchFrom cfg row q i (withMatched s v os ds))
-  unfolding matchBy rules.andThen
+  unfolding rules.andThen
   match-past h s = rw (turn-is s, h)
 
   pub match-fail : r ≡ lots.Fail → (s : KernelState)
       → seen (matchedIn s (record { outcome = Halt CounterOverflow; venue = v; orders = os; deliveries = ds; raised = raised })) w ≡ played (logAt w raised) (matchFrom cfg row q i (withMatched s v os ds))
-  unfolding matchBy rules.andThen played noted
+  unfolding rules.andThen played noted
   match-fail h s = rw (turn-is s, h)
 
   -- a fill: a is what it left
@@ -285,7 +199,6 @@ module _ (w : List ℕ) (raised : ℕ) (cfg : Config) (row : KernelTick) (i : �
     start s = withMatched s v os ds
 
     take-is : (s : KernelState) → matchFrom cfg row q i (start s) ≡ rules.andThen (fillAt cfg i o n (start s)) (matchFrom cfg row j (i + 1))
-    unfolding matchBy
     take-is s = turn-is s ∙ rw h
 
     -- what stops the fill stops the pass; where it ran, the pass goes on
@@ -308,7 +221,7 @@ module _ (w : List ℕ) (raised : ℕ) (cfg : Config) (row : KernelTick) (i : �
         (report : ReportRec) (er : report ≡ reportAt (v .clock .«now_ns») (v .seqs .«stamp_seq») filled kind (o .«cancel_inflight») n)
         (rec : FillRec) (ec : rec ≡ recordAt (v .clock .«now_ns») (v .seqs .«next_exec_id») o n)
         (w2 : List ℕ) (b : Reported) (eb : (s : KernelState) → seen (reportedIn s b) w2 ≡ played (logAt w1 (a .raised)) (reported cfg report (withReport s (a .venue .«rng_latency») (a .venue .clock)))) where
-      t : (os .count ≤ 8) × (i < os .count)
+      t : There i os (fills o n)
       t = take-there (cfg .fill) row os i r e o n h
 
       abbrev store : Orders
@@ -323,7 +236,7 @@ module _ (w : List ℕ) (raised : ℕ) (cfg : Config) (row : KernelTick) (i : �
 
       telling-is : (s : KernelState) → telling cfg i o n (start s) (withMatched s (a .venue) os ds) ≡ rules.andThen (reported cfg report (held s)) (push-of report (fill.Some rec))
       unfolding queueDelivery fillReport
-      telling-is s = rw (← ef, ← ek, ← er, ← ec, ← (store-in 8 (ordersRow os) filled i (t .0) (t .1)))
+      telling-is s = rw (← ef, ← ek, ← er, ← ec, ← (store-in 8 (ordersRow os) filled i (t .1) (t .2)))
 
       -- the rest of the fill is the report, then the push
       reports : (s : KernelState) {x : Seen} → x ≡ played (logAt w1 (a .raised)) (rules.andThen (reported cfg report (held s)) (push-of report (fill.Some rec)))

@@ -1,21 +1,18 @@
 -- The parts of the state that a match pass and the sweep after it change.
 use Prim.Native.Nat.{ℕ}
 use mathlib.Core.Bool.{Bool, true, false}
-use lib.Dec.{eqb}
 use Rattle.numbers.specs.Choice.{pick}
-use Rattle.numbers.specs.Words.{onWord}
-use Rattle.lists.specs.Lists.{onSome, entryAt, foundIn, live}
-use Rattle.book.specs.Entries.{blankOrder, isTerminal}
+use Rattle.lists.specs.Lists.{onSome, foundIn, live}
+use Rattle.book.specs.Entries.{isTerminal}
 use Rattle.book.specs.Rows.{ordersRow}
 use Rattle.book.specs.With.{withClock, withRngLatency, withSeqs, withOrders, withMsgs, withAwaiting, withGate, withDeliveries, withCounters}
 use Rattle.book.specs.declared.VenueOrder.{VenueOrder}
-use Rattle.book.specs.declared.config.FillMode.{FillMode}
 use Rattle.book.specs.declared.config.KernelTick.{KernelTick}
 use Rattle.book.specs.declared.deliveries.Deliveries.{Deliveries}
 use Rattle.book.specs.declared.msgs.Msgs.{Msgs}
 use Rattle.book.specs.declared.orders.Orders.{Orders}
 use Rattle.book.specs.declared.state.KernelState.{KernelState}
-use Rattle.rules.specs.Matching.{matches, fillLots}
+use Rattle.rules.specs.Matching.{matches, Fills, no-fill, fills, fails}
 use Rattle.reports.specs.declared.Step.{Step}
 use Rattle.matching.specs.declared.Venue.{Venue}
 use Rattle.matching.specs.declared.Filled.{Filled}
@@ -38,22 +35,11 @@ withMatched s v os ds = withDeliveries (withOrders (withVenue s v) os) ds
 abbrev pub matchedIn : KernelState → Matched → Step
 matchedIn s m = record { outcome = m .outcome; state = withMatched s (m .venue) (m .orders) (m .deliveries); raised = m .raised }
 
--- what a row fills at a place: nothing, lots of the order there, or the queue rule's halt
-pub data Fills : Type 0 where
-  none-there : Fills
-  fills : VenueOrder → ℕ → Fills
-  fails : Fills
-
+-- what a row fills at a place
 abbrev pub lotsTold : Lots → Fills
-lotsTold lots.Nothing = none-there
+lotsTold lots.Nothing = no-fill
 lotsTold (lots.Take o n) = fills o n
 lotsTold lots.Fail = fails
-
-unfoldable pub lotsAt : FillMode → KernelTick → Orders → ℕ → Fills
-lotsAt mode row os i =
-    onSome (entryAt 8 blankOrder i (ordersRow os))
-    (λ o. pick (matches row o) (onWord (fillLots mode row o) (λ n. pick (eqb n 0) none-there (fills o n)) fails) none-there)
-    none-there
 
 -- whether a row has anything to do with an order
 unfoldable pub stirs : KernelTick → VenueOrder → Bool

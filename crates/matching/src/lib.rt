@@ -37,9 +37,9 @@ ghost use Rattle.book.specs.Entries.{remaining};
 ghost use Rattle.book.specs.declared.state.KernelState.{KernelState};
 ghost use Rattle.book.specs.With.{withOrders};
 ghost use Rattle.rules.specs.Run.{haltAt};
-ghost use Rattle.rules.specs.Matching.{filledBy, recordAt, fillKind, fillEvent, matchFrom, leave, terminalAt, sweepFrom, marked};
+ghost use Rattle.rules.specs.Matching.{filledBy, recordAt, fillKind, fillEvent, fillsAt, matchFrom, leave, terminalAt, sweepFrom, marked};
 ghost use Rattle.reports.specs.Log.{logAt, played, seen};
-ghost use Rattle.matching.specs.Matching.{withVenue, filledIn, lotsAt, lotsTold, withMatched, matchedIn, stirs, busy, sweptIn, withSwept};
+ghost use Rattle.matching.specs.Matching.{withVenue, filledIn, lotsTold, withMatched, matchedIn, stirs, busy, sweptIn, withSwept};
 
 // What a fill changes of the state beside the two lists.
 pub struct Venue {
@@ -176,7 +176,7 @@ fn fill_at(log: &mut [u64], raised: u64, order: VenueOrder, lots: u64, v: Venue)
 
 // What the row fills of the order at a place.
 fn lots_at(mode: FillMode, row: KernelTick, orders: Orders, index: usize) -> Lots
-    ensures { λ r. ⌜ lotsTold r ≡ lotsAt mode row orders index ⌝ }
+    ensures { λ r. ⌜ lotsTold r ≡ fillsAt mode row index orders ⌝ }
 {
     let got = orders.get(index);
     let MaybeOrder::Some(order) = got else {

@@ -20,7 +20,7 @@ use Rattle.book.specs.declared.state.Phase.{Phase}
 use Rattle.book.specs.declared.state.Phase.the-variants.{BeforeMatch, ObsQueued, AwaitDecision, Terminal}
 use Rattle.rules.specs.Run.{Run, ran, ended, after, andThen, again, last}
 use Rattle.rules.specs.Report.{delayed}
-use Rattle.rules.specs.Matching.{filledBy, fillCounted, fillEvent, fillAt, matchOrder, matchAt, matchFrom, leave, sweepFrom, sweep, matchRow}
+use Rattle.rules.specs.Matching.{filledBy, fillCounted, fillEvent, fillAt, Fills, no-fill, fills, fails, fillsAt, filling, matchAt, matchFrom, leave, sweepFrom, sweep, matchRow}
 use Rattle.rules.specs.Delivery.{deliverAll, droppedEvent, closeData, endOfData}
 use Rattle.rules.specs.Phases.{queueObservation, matchPhase, beforeMatch, settleRow, settle, nextRow, obsQueued, onPhase, phaseTurn, turnsIn, turns, phases}
 use Rattle.rules.proofs.Loop.{run-again, run-last}
@@ -41,16 +41,15 @@ module _ {x : ℕ} {p : Phase} {h : ℕ} where
   fill-in j c i o q s k = then-in (event-in (j + 3 + 1) o q s k)
       (λ m t g. report-in j c _ _ _ (record { at = g .at; on = g .on; room = g .room; few = stored-few i h (filledBy q o) (ordersRow (t .orders)) (g .few); paid = g .paid }))
 
-  match-at-in : (j : ℕ) {n : ℕ} (c : Config) (row : KernelTick) (i : ℕ) (s : KernelState) → Kept x p h (j + 3 + 1 + 1) n s → Within n (Kept x p h j) (matchAt c row i s)
-  unfolding matchAt matchOrder
-  match-at-in j c row i s k =
-      let z = ran-in (less j (omega arith) k) in
-      some-in _ (λ o. pick-in _ (word-in _ (λ q. pick-in _ z (fill-in j c i o q s k)) halt-in) z) z
+  filling-in : (j : ℕ) {n : ℕ} (c : Config) (i : ℕ) (s : KernelState) (f : Fills) → Kept x p h (j + 3 + 1 + 1) n s → Within n (Kept x p h j) (filling c i s f)
+  filling-in j c i s no-fill k = ran-in (less j (omega arith) k)
+  filling-in j c i s (fills o q) k = fill-in j c i o q s k
+  filling-in j c i s fails k = halt-in
 
   match-in : (j : ℕ) {n : ℕ} (c : Config) (row : KernelTick) (l i : ℕ) (s : KernelState) → Kept x p h (5 * l + j) n s → Within n (Kept x p h j) (matchFrom c row l i s)
-  unfolding matchFrom
+  unfolding matchFrom matchAt
   match-in j c row zero i s k = ran-in (less j (omega arith) k)
-  match-in j c row (suc l) i s k = then-in (match-at-in (5 * l + j) c row i s (less (5 * l + j + 3 + 1 + 1) (omega arith) k)) (λ m t g. match-in j c row l (i + 1) t g)
+  match-in j c row (suc l) i s k = then-in (filling-in (5 * l + j) c i s (fillsAt (c .fill) row i (s .orders)) (less (5 * l + j + 3 + 1 + 1) (omega arith) k)) (λ m t g. match-in j c row l (i + 1) t g)
 
   leave-in : (j : ℕ) {n : ℕ} (i : ℕ) (s : KernelState) → Kept x p h j n s → Within n (Kept x p h j) (leave i s)
   unfolding leave

@@ -23,11 +23,14 @@ use Rattle.book.specs.declared.config.Config.{Config}
 use Rattle.book.specs.declared.config.FillMode.{FillMode}
 use Rattle.book.specs.declared.config.FillMode.the-variants.{Immediate, QueuePosition}
 use Rattle.book.specs.declared.config.KernelTick.{KernelTick}
+use Rattle.book.specs.declared.orders.Orders.{Orders}
+use Rattle.numbers.specs.Choice.{pick}
+use Rattle.numbers.specs.Words.{onWord}
 use Rattle.book.specs.declared.state.KernelState.{KernelState}
 use Rattle.rules.specs.Messages.{removeExpiry}
-use Rattle.rules.specs.Matching.{lotsOf, queueFillLots, fillLots, filledBy, fillCounted, fillEvent, fillAt, matchOrder, matchAt, matchFrom, leave, terminalAt, sweepFrom, sweep, marked, matchRow}
+use Rattle.rules.specs.Matching.{lotsOf, queueFillLots, fillLots, filledBy, fillCounted, fillEvent, fillAt, Fills, no-fill, fills, fails, fillsOf, fillsAt, filling, matchAt, matchFrom, leave, terminalAt, sweepFrom, sweep, marked, matchRow}
 use Rattle.rules.specs.Conservation.{ofSide, lotsOn}
-use Rattle.rules.proofs.Cases.{word-case, movedBy}
+use Rattle.rules.proofs.Cases.{movedBy}
 use Rattle.rules.proofs.Positions.{even-same, even-venue}
 use Rattle.rules.proofs.Kept.{ran-kept, halt-kept, pick-kept, word-kept, taking-kept, raised-kept, ran-then, picks-kept, then-kept}
 use Rattle.rules.proofs.Steps.{stamp-then, await-kept}
@@ -50,6 +53,27 @@ unfolding AtMost queueFillLots
 fill-most Immediate row o = omega arith
 fill-most (QueuePosition rate per least) row o =
     pick-case (AtMost (remaining o)) _ _ _ (λ _. omega arith) (λ _. pick-case (AtMost (remaining o)) _ _ _ (λ _. tt) (λ _. lots-most _ o))
+
+-- what is filled is the live order at that place: some lots, and no more than remain
+abbrev pub There : ℕ → Orders → Fills → Type 0
+There i os no-fill = Unit {0}
+There i os (fills o n) = (o ≡ getD (os .slots) i blankOrder) × (os .count ≤ 8) × (i < os .count) × (0 < n) × (n ≤ remaining o)
+There i os fails = Unit {0}
+
+pub fills-there : (mode : FillMode) (row : KernelTick) (i : ℕ) (os : Orders) → There i os (fillsAt mode row i os)
+unfolding fillsAt fillsOf
+fills-there mode row i os =
+    entry-case 8 (There i os) blankOrder i (ordersRow os) _ _
+    (λ a b. pick-case (There i os) _ _ _ (λ _. lots a b (getD (os .slots) i blankOrder) refl (fillLots mode row (getD (os .slots) i blankOrder)) (fill-most mode row _)) (λ _. tt))
+    (λ _. tt)
+  where
+    positive : (n : ℕ) → (n ≡ 0 → ⊥) → 0 < n
+    positive zero k = absurd (k refl)
+    positive (suc n) k = omega arith
+
+    lots : os .count ≤ 8 → i < os .count → (o : VenueOrder) → o ≡ getD (os .slots) i blankOrder → (m : MaybeU64) → AtMost (remaining o) m → There i os (onWord m (λ n. pick (eqb n 0) no-fill (fills o n)) fails)
+    lots a b o e u64.None h = unfold onWord in tt
+    lots a b o e (u64.Some n) h = unfold onWord AtMost in pick-case (There i os) (eqb n 0) _ _ (λ _. tt) (λ z. (e, a, b, positive n (eqb-false n 0 z), h))
 
 -- ---- a fill
 -- an order that a fill makes terminal has no lots left
@@ -101,23 +125,14 @@ unfolding fillAt
 fill-at-good c i n s w z m h = then-kept (event-good i n s w z m h) (λ t g. report-good c _ _ _ g)
 
 -- ---- the pass over the orders
-order-good : (c : Config) (row : KernelTick) (i : ℕ) (s : KernelState) → i < s .orders .count → Mid s → Good Mid (matchOrder c row i (orderAt i s) s)
-unfolding matchOrder
-order-good c row i s w h =
-    word-case (Good Mid) (fillLots (c .fill) row (orderAt i s)) _ _
-    (λ n e. pick-case (Good Mid) (eqb n 0) _ _ (λ _. ran-kept h) (λ z. fill-at-good c i n s w (positive n (eqb-false n 0 z)) (most n e (fill-most (c .fill) row (orderAt i s))) h))
-    (λ _. halt-kept)
-  where
-    positive : (n : ℕ) → (n ≡ 0 → ⊥) → 0 < n
-    positive zero k = absurd (k refl)
-    positive (suc n) k = omega arith
-
-    most : (n : ℕ) → fillLots (c .fill) row (orderAt i s) ≡ u64.Some n → AtMost (remaining (orderAt i s)) (fillLots (c .fill) row (orderAt i s)) → n ≤ remaining (orderAt i s)
-    most n e g = unfold AtMost in rw e at g
-
 match-good : (c : Config) (row : KernelTick) (i : ℕ) (s : KernelState) → Mid s → Good Mid (matchAt c row i s)
 unfolding matchAt
-match-good c row i s h = entry-case 8 (Good Mid) blankOrder i (ordersRow (s .orders)) _ _ (λ _ w. pick-kept _ (order-good c row i s w h) (ran-kept h)) (λ _. ran-kept h)
+match-good c row i s h = go (fillsAt (c .fill) row i (s .orders)) (fills-there (c .fill) row i (s .orders))
+  where
+    go : (f : Fills) → There i (s .orders) f → Good Mid (filling c i s f)
+    go no-fill k = ran-kept h
+    go (fills o n) k = rw (k .0) (fill-at-good c i n s (k .2) (k .3) (rw (k .0) at (k .4)) h)
+    go fails k = halt-kept
 
 match-all : (c : Config) (row : KernelTick) (k i : ℕ) (s : KernelState) → Mid s → Good Mid (matchFrom c row k i s)
 unfolding matchFrom

@@ -34,7 +34,7 @@ use Rattle.book.specs.declared.state.Phase.the-variants.{BeforeMatch, ObsQueued
 use Rattle.rules.specs.Run.{Outcome, Run, ran, left, halt, ended, ranTo, raised, haltAt, onRan, after, andThen, putting, taking, Turn, again, last, onTurn, iter}
 use Rattle.rules.specs.Report.{stamp, delayed, pushDelivery, reported, queueDelivery}
 use Rattle.rules.specs.Messages.{release, await, awaitMarked, book, schedule, scheduleExpiry, accept, reject, activate, activation, cancelBooked, onActivation, cancelPending, cancelAwaiting, cancel, expireBooked, expire, acts, applyNextMsg}
-use Rattle.rules.specs.Matching.{fillCounted, fillEvent, fillAt, matchOrder, matchAt, matchFrom, leave, sweepFrom, sweep, matchRow}
+use Rattle.rules.specs.Matching.{fillCounted, fillEvent, fillAt, Fills, no-fill, fills, fails, fillsAt, filling, matchAt, matchFrom, leave, sweepFrom, sweep, matchRow}
 use Rattle.rules.specs.Delivery.{countFill, moveAgent, countReject, deliverNext, deliverAll, droppedBy, droppedEvent, closeData, endOfData}
 use Rattle.rules.specs.Events.{popObservation, Class, venue, delivery, observation, Next, nothing, next, nextOf, handle, turnOn, eventTurn, runEvents}
 use Rattle.rules.specs.Phases.{queueObservation, matchPhase, beforeMatch, settleRow, settle, nextRow, obsQueued, onPhase, phaseTurn, phases}
@@ -216,11 +216,15 @@ unfolding fillAt fillEvent fillCounted
 fill-tells c i o n s = then-tells (then-tells (stamp-tells s) (λ t.
     some-tells _ (λ g. pick-tells _ (word-tells _ (λ e. word-tells _ (λ k. raised-tells tt) halt-tells) halt-tells) halt-tells) halt-tells)) (λ t. report-tells c _ _ _)
 
+filling-tells : (c : Config) (i : ℕ) (s : KernelState) (f : Fills) → Tells (filling c i s f)
+filling-tells c i s no-fill = ran-tells
+filling-tells c i s (fills o n) = fill-tells c i o n s
+filling-tells c i s fails = halt-tells
+
 match-tells : (c : Config) (row : KernelTick) (k i : ℕ) (s : KernelState) → Tells (matchFrom c row k i s)
-unfolding matchFrom matchAt matchOrder
+unfolding matchFrom matchAt
 match-tells c row zero i s = ran-tells
-match-tells c row (suc k) i s =
-    then-tells (some-tells _ (λ o. pick-tells _ (word-tells _ (λ n. pick-tells _ ran-tells (fill-tells c i o n s)) halt-tells) ran-tells) ran-tells) (match-tells c row k (i + 1))
+match-tells c row (suc k) i s = then-tells (filling-tells c i s (fillsAt (c .fill) row i (s .orders))) (match-tells c row k (i + 1))
 
 sweep-tells : (k i : ℕ) (s : KernelState) → Tells (sweepFrom k i s)
 unfolding sweepFrom leave

@@ -1,6 +1,6 @@
 -- 'Events': the walk over the three queues.
 use Prim.Native.Nat.{ℕ, suc, _+_, _*_, max}
-use mathlib.Core.List.{List, [], _∷_}
+use mathlib.Core.List.{[], _∷_}
 use lib.Dec.{leb}
 use Rattle.numbers.specs.Choice.{pick}
 use Rattle.numbers.specs.declared.MaybeU64.the-variants as u64
@@ -16,25 +16,30 @@ use Rattle.book.specs.declared.state.KernelEvent.the-variants.{Observed}
 use Rattle.book.specs.declared.state.KernelState.{KernelState}
 use Rattle.book.specs.declared.state.Phase.the-variants as phase
 use Rattle.book.specs.declared.state.Status.the-variants as status
+use Rattle.book.specs.declared.state.Control.{Control}
 use Rattle.rules.specs.Run.{Run, left, ranTo, taking, Turn, again, last, iter}
 use Rattle.rules.specs.Messages.{applyNextMsg}
 use Rattle.rules.specs.Delivery.{deliverNext}
 
 -- ---- an observation
--- s without the observation of that row. "A pause sets `last_obs_row`, writes observed, saves the phase in `resume`, and the phase becomes AwaitDecision."
+-- "A pause .. saves the phase in `resume`, and the phase becomes AwaitDecision."
+abbrev pub pausedAt : Control → Control
+pausedAt c = controlPhase (controlResume c (c .phase)) phase.AwaitDecision
+
+-- "A pause sets `last_obs_row`, writes observed, ..": s is without the observation of that row
 abbrev pub pauses : ℕ → KernelState → Run
 pauses row s = record {
   outcome = left;
-  state =
-      withAgent
-      (withControl s (controlPhase (controlResume (s .control) (s .control .phase)) phase.AwaitDecision))
-      (agentLastObsRow (s .agent) (u64.Some row));
+  state = withAgent (withControl s (pausedAt (s .control))) (agentLastObsRow (s .agent) (u64.Some row));
   events = Observed row (s .clock .«now_ns») ∷ [];
 }
 
 -- "`step` at or above `s_max`: Truncated, Terminal."
+abbrev pub truncated : Control → Control
+truncated c = controlStatus (controlPhase c phase.Terminal) status.Truncated
+
 abbrev pub truncates : KernelState → KernelState
-truncates s = withControl s (controlStatus (controlPhase (s .control) phase.Terminal) status.Truncated)
+truncates s = withControl s (truncated (s .control))
 
 -- "At `s_max` the observation is removed unseen."
 unfoldable pub popObservation : Config → KernelState → Run

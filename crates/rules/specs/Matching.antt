@@ -26,6 +26,7 @@ use Rattle.book.specs.declared.config.Config.{Config}
 use Rattle.book.specs.declared.config.FillMode.{FillMode}
 use Rattle.book.specs.declared.config.FillMode.the-variants.{Immediate, QueuePosition}
 use Rattle.book.specs.declared.config.KernelTick.{KernelTick}
+use Rattle.book.specs.declared.orders.Orders.{Orders}
 use Rattle.book.specs.declared.state.GateState.{GateState}
 use Rattle.book.specs.declared.state.HaltReason.the-variants.{LedgerOverflow, CounterOverflow}
 use Rattle.book.specs.declared.state.KernelEvent.the-variants.{Fill}
@@ -132,18 +133,30 @@ fillAt c i o n s =
     queueDelivery c (fillReport s o n) (fill.Some (fillRecord s o n)) (withOrders t (ordersOf (storeAt 8 i (filledBy n o) (ordersRow (t .orders)) .list)))
 
 -- ---- the pass over the orders
+-- what a row fills at a place: nothing, so many lots of the order there, or the queue rule fails
+pub data Fills : Type 0 where
+  no-fill : Fills
+  fills : VenueOrder → ℕ → Fills
+  fails : Fills
+
 -- "A fill of 0 does nothing."
-unfoldable pub matchOrder : Config → KernelTick → ℕ → VenueOrder → KernelState → Run
-matchOrder c row i o s =
-    onWord (fillLots (c .fill) row o)
-    (λ n. pick (eqb n 0) (ranTo s) (fillAt c i o n s))
-    (haltAt CounterOverflow s)
+unfoldable pub fillsOf : FillMode → KernelTick → VenueOrder → Fills
+fillsOf mode row o =
+    pick (matches row o)
+    (onWord (fillLots mode row o) (λ n. pick (eqb n 0) no-fill (fills o n)) fails)
+    no-fill
+
+unfoldable pub fillsAt : FillMode → KernelTick → ℕ → Orders → Fills
+fillsAt mode row i os = onSome (entryAt 8 blankOrder i (ordersRow os)) (fillsOf mode row) no-fill
+
+-- "queue rule, after the minimum: `per_ms` 0: 7"
+abbrev pub filling : Config → ℕ → KernelState → Fills → Run
+filling c i s no-fill = ranTo s
+filling c i s (fills o n) = fillAt c i o n s
+filling c i s fails = haltAt CounterOverflow s
 
 unfoldable pub matchAt : Config → KernelTick → ℕ → KernelState → Run
-matchAt c row i s =
-    onSome (entryAt 8 blankOrder i (ordersRow (s .orders)))
-    (λ o. pick (matches row o) (matchOrder c row i o s) (ranTo s))
-    (ranTo s)
+matchAt c row i s = filling c i s (fillsAt (c .fill) row i (s .orders))
 
 -- "In list order": k orders from place i on
 unfoldable pub matchFrom : Config → KernelTick → ℕ → ℕ → KernelState → Run

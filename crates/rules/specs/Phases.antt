@@ -12,6 +12,7 @@ use Rattle.book.specs.Rows.{observedRow, observedOf}
 use Rattle.book.specs.With.{withControl, withClock, withObserved, controlPhase, controlCursor, controlCurRow, clockLastObservedNs}
 use Rattle.book.specs.declared.config.Config.{Config}
 use Rattle.book.specs.declared.config.KernelTick.{KernelTick}
+use Rattle.book.specs.declared.state.Control.{Control}
 use Rattle.book.specs.declared.state.HaltReason.the-variants.{LedgerOverflow, CounterOverflow}
 use Rattle.book.specs.declared.state.KernelEvent.the-variants.{RowEnd}
 use Rattle.book.specs.declared.state.KernelState.{KernelState}
@@ -68,10 +69,11 @@ settle c rows s =
     (ranTo s)
 
 -- "Otherwise `cur_row` becomes the cursor, the cursor rises, BeforeMatch."
+abbrev pub toRow : Control → ℕ → Control
+toRow c n = controlPhase (controlCursor (controlCurRow c (u64.Some (c .cursor))) n) BeforeMatch
+
 abbrev pub toNextRow : KernelState → KernelState
-toNextRow s =
-    withControl s
-    (controlPhase (controlCursor (controlCurRow (s .control) (u64.Some (s .control .cursor))) (s .control .cursor + 1)) BeforeMatch)
+toNextRow s = withControl s (toRow (s .control) (s .control .cursor + 1))
 
 -- "No row at the cursor: end of data. `step` at or above `s_max`: Truncated, Terminal."
 unfoldable pub nextRow : Config → List ℕ → KernelState → Run

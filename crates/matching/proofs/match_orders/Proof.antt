@@ -7,7 +7,7 @@ use Rattle.book.proofs.Long.{deliveries-long}
 use Rattle.rules.specs.Matching.{matchFrom}
 use Rattle.reports.specs.Log.{logAt, played}
 use Rattle.matching.specs.Matching.{withMatched}
-use Rattle.matching.proofs.MatchingWays.{take-within, take-there, match-past, match-fail, match-stop, match-unreported, match-full, match-on, match-end}
+use Rattle.matching.proofs.MatchingWays.{take-there, match-past, match-fail, match-stop, match-unreported, match-full, match-on, match-end}
 use borrow.Author.Needs.{needs}
 use native.Mathlib.Omega.{arith}
 use Rattle.matching.proofs.match_orders.Statement.{statement}
@@ -42,7 +42,7 @@ match-orders-spec =
     (λ c κs. search needs)
     (λ c. search needs)
     (λ c κs. let b = c .before .before .before .before .before .before .before .before .before in let d = b .before .before in
-    take-within _ _ _ _ _ (d .lots-at .ensures) _ _ (b .lots .given .1))
+    take-there _ _ _ _ _ (d .lots-at .ensures) _ _ (b .lots .given .1) .4)
     (λ c. let b = c .before .before .before .before .before .before .before .before .before .before in let d = b .before .before in
     let t = take-there _ _ _ _ _ (d .lots-at .ensures) _ _ (b .lots .given .1) in omega arith)
     (λ c. let b = c .before .before .before .before .before .before .before .before .before .before in let d = b .before .before in

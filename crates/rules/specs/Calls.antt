@@ -29,6 +29,7 @@ pub data Did : Type 0 where
   halts : HaltReason → Did
   ends : List VenueMsg → Did
 
+-- what a call gives, of whatever log
 pub record Answer : Type 0 where
   pub did : Did
   pub state : KernelState
@@ -42,12 +43,14 @@ refuse r s = record { did = refused r; state = s; events = [] }
 abbrev pub halted : HaltReason → KernelState → KernelState
 halted h s = withCounters (withControl s (controlStatus (controlPhase (s .control) Terminal) (status.Halted h))) (countersHalts (s .counters) 1)
 
+-- a halt is told behind all else; every other end is told already
 abbrev pub answerOn : Outcome → KernelState → List KernelEvent → Answer
 answerOn ran s es = record { did = stays; state = s; events = es }
 answerOn left s es = record { did = stays; state = s; events = es }
 answerOn (halt h) s es = record { did = halts h; state = halted h s; events = es ++ Halted h ∷ [] }
 answerOn (ended ms) s es = record { did = ends ms; state = s; events = es }
 
+-- the run of a call, answered
 unfoldable pub answer : Run → Answer
 answer r = answerOn (r .outcome) (r .state) (r .events)
 
@@ -64,12 +67,14 @@ advance c rows s =
     (pick (countsFit s) (answer (phases c rows s)) (refuse ListCount s))
     (refuse RowWords s)
 
+-- "103: not AwaitDecision"
 abbrev pub isPaused : Phase → Bool
 isPaused BeforeMatch = false
 isPaused ObsQueued = false
 isPaused AwaitDecision = true
 isPaused Terminal = false
 
+-- "104: resume neither BeforeMatch nor ObsQueued"
 abbrev pub canResume : Phase → Bool
 canResume BeforeMatch = true
 canResume ObsQueued = true
@@ -98,5 +103,6 @@ pub record Result : Type 0 where
   pub log : List ℕ
   pub count : ℕ
 
+-- an answer beside the log that the caller lent
 abbrev pub shown : List ℕ → Answer → Result
 shown log a = record { did = a .did; state = a .state; log = written log (a .events); count = length (a .events) }

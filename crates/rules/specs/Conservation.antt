@@ -26,9 +26,11 @@ use Rattle.rules.specs.Calls.{Did, refused, stays, halts, ends, advance,
 abbrev pub booked : KernelState → List VenueOrder
 booked s = below (ordersRow (s .orders))
 
+-- queued messages
 abbrev pub queued : KernelState → List VenueMsg
 queued s = below (msgsRow (s .msgs))
 
+-- the deliveries that are to come
 abbrev pub undelivered : KernelState → List Delivery
 undelivered s = below (deliveriesRow (s .deliveries))
 
@@ -47,6 +49,7 @@ carriedBy d (Cancel id) = 0
 carriedBy d (Activate o life) = lotsOn d o
 carriedBy d (Expire id) = 0
 
+-- the same of a message
 abbrev pub carriedOn : Side → VenueMsg → ℕ
 carriedOn d m = carriedBy d (m .kind)
 
@@ -55,6 +58,7 @@ abbrev pub recordedBy : Side → MaybeFill → ℕ
 recordedBy d fill.None = 0
 recordedBy d (fill.Some f) = ofSide d (f .side) (f .qty)
 
+-- the same of a delivery
 abbrev pub recordedOn : Side → Delivery → ℕ
 recordedOn d x = recordedBy d (x .fill)
 

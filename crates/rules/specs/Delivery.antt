@@ -47,10 +47,12 @@ moveAgent (fill.Some f) s =
     (λ p. countFill (withAgent s (agentPos (s .agent) p)))
     (haltAt LedgerOverflow s)
 
+-- "origin Local"
 abbrev pub isLocal : Origin → Bool
 isLocal Local = true
 isLocal Venue = false
 
+-- "a Rejected"
 abbrev pub isRejected : ExecKind → Bool
 isRejected exec.Accepted = false
 isRejected exec.Rejected = true
@@ -71,6 +73,7 @@ countReject r s =
     (ranTo s)
 
 -- ---- the account
+-- what a report does to its order's entry: nothing, or it closes it, or marks it awaiting
 pub data Effect : Type 0 where
   stands : Effect
   closes : Effect
@@ -86,6 +89,7 @@ effect exec.CancelRejected w pending = closes
 effect exec.PartialFill w pending = stands
 effect exec.Fill w pending = pick pending awaits closes
 
+-- the account with the entry at place i so treated
 abbrev pub affected : Effect → ℕ → ℕ → AgentAccount → AgentAccount
 affected stands id i a = a
 affected closes id i a = accountOf (takeAt 8 blankOpen i (accountRow a) .list)
@@ -106,6 +110,7 @@ handed d s =
     andThen (countReject (d .report) u) λ v.
     ranTo (withAccount v (onDelivery (d .report) (v .account)))
 
+-- the first delivery, if there is one
 unfoldable pub deliverNext : KernelState → Run
 deliverNext s = taking (popped 24 blankDelivery (deliveriesRow (s .deliveries))) (λ d l. handed d (withDeliveries s (deliveriesOf l))) (ranTo s)
 
@@ -121,9 +126,11 @@ droppedBy (Cancel id) = DroppedMsg id true
 droppedBy (Activate o life) = DroppedMsg (o .id) false
 droppedBy (Expire id) = DroppedExpiry id
 
+-- the same of a message
 abbrev pub droppedEvent : VenueMsg → KernelEvent
 droppedEvent m = droppedBy (m .kind)
 
+-- "empties messages and observations"
 unfoldable pub emptyQueues : KernelState → KernelState
 emptyQueues s = withObserved (withMsgs s (msgsOf (emptied 16 blankMsg (msgsRow (s .msgs))))) (observedOf (emptied 16 blankObs (observedRow (s .observed))))
 
@@ -144,5 +151,6 @@ closeData s =
     (haltAt CounterOverflow u))
     (haltAt CounterOverflow t))
 
+-- "delivers all", then the rest
 unfoldable pub endOfData : KernelState → Run
 endOfData s = andThen (deliverAll (s .deliveries .count) s) closeData

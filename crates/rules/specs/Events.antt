@@ -38,6 +38,7 @@ pauses row s = record {
 abbrev pub truncated : Control → Control
 truncated c = controlStatus (controlPhase c phase.Terminal) status.Truncated
 
+-- the same of a state
 abbrev pub truncates : KernelState → KernelState
 truncates s = withControl s (truncated (s .control))
 
@@ -52,11 +53,13 @@ popObservation c s =
     (ranTo s)
 
 -- ---- which event is next
+-- "venue, then delivery, then observation"
 pub data Class : Type 0 where
   venue : Class
   delivery : Class
   observation : Class
 
+-- no event is due, or the first one that is, with its time
 pub data Next : Type 0 where
   nothing : Next
   next : Class → ℕ → Next
@@ -69,9 +72,11 @@ dueBy limit k t = pick (leb t limit) (next k t) nothing
 unfoldable pub nextMsg : ℕ → KernelState → Next
 nextMsg limit s = onSome (entryAt 16 blankMsg 0 (msgsRow (s .msgs))) (λ m. dueBy limit venue (m .«eff_ns»)) nothing
 
+-- the same of deliveries
 unfoldable pub nextDelivery : ℕ → KernelState → Next
 nextDelivery limit s = onSome (entryAt 24 blankDelivery 0 (deliveriesRow (s .deliveries))) (λ d. dueBy limit delivery (d .«at_ns»)) nothing
 
+-- the same of observations
 unfoldable pub nextObservation : ℕ → KernelState → Next
 nextObservation limit s = onSome (entryAt 16 blankObs 0 (observedRow (s .observed))) (λ e. dueBy limit observation (e .«ready_ns»)) nothing
 
@@ -90,15 +95,18 @@ nextOf limit s = sooner (nextMsg limit s) (sooner (nextDelivery limit s) (nextOb
 abbrev pub clockTo : ℕ → KernelState → KernelState
 clockTo t s = withClock s (clockNowNs (s .clock) (max t (s .clock .«now_ns»)))
 
+-- what an event does, the clock at its time
 abbrev pub handle : Config → Class → KernelState → Run
 handle c venue s = applyNextMsg c s
 handle c delivery s = deliverNext s
 handle c observation s = popObservation c s
 
+-- the walk goes on behind an event, and ends where none is due
 abbrev pub turnOn : Config → Next → KernelState → Turn
 turnOn c nothing s = last (ranTo s)
 turnOn c (next k t) s = again (handle c k (clockTo t s))
 
+-- one event up to the limit
 unfoldable pub eventTurn : Config → ℕ → KernelState → Turn
 eventTurn c limit s = turnOn c (nextOf limit s) s
 
@@ -108,9 +116,11 @@ extraKind (Cancel id) = 0
 extraKind (Activate o life) = 2
 extraKind (Expire id) = 0
 
+-- the same of a message
 abbrev pub extra : VenueMsg → ℕ
 extra m = extraKind (m .kind)
 
+-- the turns that the walk is given, less one
 unfoldable pub weight : KernelState → ℕ
 weight s = 2 * s .msgs .count + total extra (below (msgsRow (s .msgs))) + s .deliveries .count + s .observed .count
 

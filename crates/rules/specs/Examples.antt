@@ -22,11 +22,13 @@ pub data Example : Type 0 where
   draws : ℕ → ℕ → Draw → Example
   misses : KernelTick → VenueOrder → Example
 
+-- the definition gives that answer
 unfoldable pub Holds : Example → Type 0
 Holds (fills mode row o lots) = fillLots mode row o ≡ lots
 Holds (draws rng most d) = draw rng most ≡ d
 Holds (misses row o) = matches row o ≡ false
 
+-- and so for each of a list
 unfoldable pub All : List Example → Type 0
 All [] = Unit {0}
 All (e ∷ es) = Holds e × All es
@@ -39,6 +41,7 @@ buy qty filled = record { id = 1; side = Buy; price = 101; qty = qty; filled = f
 abbrev pub row : ℕ → ℕ → ℕ → KernelTick
 row ts ask lots = record { «ts_ns» = ts; bid = 99; «bid_lots» = 1; ask = ask; «ask_lots» = lots }
 
+-- the twelve of document 01; Q7 has two halves
 unfoldable pub examples : List Example
 examples =
     -- Q1 to Q3

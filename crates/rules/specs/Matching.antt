@@ -97,9 +97,11 @@ filledBy n o = record {
 abbrev pub recordAt : ℕ → ℕ → VenueOrder → ℕ → FillRec
 recordAt now exec o n = record { «ts_ns» = now; «exec_id» = exec; «order_id» = o .id; side = o .side; price = o .price; qty = n }
 
+-- both as they stand at the stamp
 abbrev pub fillRecord : KernelState → VenueOrder → ℕ → FillRec
 fillRecord s = recordAt (s .clock .«now_ns») (s .seqs .«next_exec_id»)
 
+-- a fill of all that remained, or a partial one
 abbrev pub fillKind : ℕ → VenueOrder → ExecKind
 fillKind n o = pick (eqb n (remaining o)) exec.Fill exec.PartialFill
 
@@ -107,7 +109,7 @@ fillKind n o = pick (eqb n (remaining o)) exec.Fill exec.PartialFill
 unfoldable pub fillReport : KernelState → VenueOrder → ℕ → ReportRec
 fillReport s o n = reportOn s (filledBy n o) (fillKind n o) (o .«cancel_inflight») n
 
--- ".. then `venue_fills`, fill event ..": u has the gate and the exec id written
+-- ".. `venue_fills`, fill event ..": u has the gate and the exec id written
 unfoldable pub fillCounted : VenueOrder → ℕ → KernelState → KernelState → Run
 fillCounted o n s u =
     onWord (fitting (u .counters .«venue_fills» + 1))
@@ -146,6 +148,7 @@ fillsOf mode row o =
     (onWord (fillLots mode row o) (λ n. pick (eqb n 0) no-fill (fills o n)) fails)
     no-fill
 
+-- no order at the place: nothing
 unfoldable pub fillsAt : FillMode → KernelTick → ℕ → Orders → Fills
 fillsAt mode row i os = onSome (entryAt 8 blankOrder i (ordersRow os)) (fillsOf mode row) no-fill
 
@@ -155,6 +158,7 @@ filling c i s no-fill = ranTo s
 filling c i s (fills o n) = fillAt c i o n s
 filling c i s fails = haltAt CounterOverflow s
 
+-- the row at one place
 unfoldable pub matchAt : Config → KernelTick → ℕ → KernelState → Run
 matchAt c row i s = filling c i s (fillsAt (c .fill) row i (s .orders))
 
@@ -181,6 +185,7 @@ sweepFrom (suc k) i s =
     andThen (pick (terminalAt i s) (leave i s) (ranTo s))
     (sweepFrom k (pick (terminalAt i s) i (i + 1)))
 
+-- a look for each order
 unfoldable pub sweep : KernelState → Run
 sweep s = sweepFrom (s .orders .count) 0 s
 

@@ -120,6 +120,7 @@ cancelBooked c s i t =
     queueDelivery c (reportOn s o exec.Canceled false 0) fill.None (removeExpiry (o .id) u))
     (ranTo t)
 
+-- k of the order that an activation carries
 abbrev pub onActivation : MsgKind → (VenueOrder → Run) → Run → Run
 onActivation (Cancel i) k z = z
 onActivation (Activate o life) k z = k o
@@ -142,6 +143,7 @@ cancelAwaiting c s i t =
     (λ o l. queueDelivery c (reportOn s o exec.CancelRejected false 0) fill.None (withAwaiting t (ordersOf l)))
     (ranTo t)
 
+-- "Cancel, stamped always": booked, else pending, else awaiting; else nothing more
 unfoldable pub cancel : Config → ℕ → KernelState → Run
 cancel c id s =
     andThen (stamp s) λ t.

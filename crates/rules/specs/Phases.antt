@@ -72,6 +72,7 @@ settle c rows s =
 abbrev pub toRow : Control → ℕ → Control
 toRow c n = controlPhase (controlCursor (controlCurRow c (u64.Some (c .cursor))) n) BeforeMatch
 
+-- the same of a state: the row at its cursor
 abbrev pub toNextRow : KernelState → KernelState
 toNextRow s = withControl s (toRow (s .control) (s .control .cursor + 1))
 
@@ -82,6 +83,7 @@ nextRow c rows s =
     (pick (leb (c .«s_max») (s .control .step)) (ranTo (truncates s)) (ranTo (toNextRow s)))
     (endOfData s)
 
+-- "ObsQueued": the row's end, then the next row
 unfoldable pub obsQueued : Config → List ℕ → KernelState → Run
 obsQueued c rows s = andThen (settle c rows s) (nextRow c rows)
 
@@ -92,6 +94,7 @@ onPhase ObsQueued c rows s = again (obsQueued c rows s)
 onPhase AwaitDecision c rows s = last (ranTo s)
 onPhase Terminal c rows s = last (ranTo s)
 
+-- one turn, by the phase
 unfoldable pub phaseTurn : Config → List ℕ → KernelState → Turn
 phaseTurn c rows s = onPhase (s .control .phase) c rows s
 
@@ -102,8 +105,10 @@ turnsIn ObsQueued = 1
 turnsIn AwaitDecision = 0
 turnsIn Terminal = 0
 
+-- the turns that the phases are given, less one
 unfoldable pub turns : List ℕ → KernelState → ℕ
 turns rows s = 2 * (length rows / 5 - s .control .cursor) + turnsIn (s .control .phase)
 
+-- the phases until one returns, or a step stops
 unfoldable pub phases : Config → List ℕ → KernelState → Run
 phases c rows s = iter (phaseTurn c rows) (suc (turns rows s)) s

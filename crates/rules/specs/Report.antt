@@ -39,6 +39,7 @@ pub record Delay : Type 0 where
   pub rng : ℕ
   pub time : MaybeU64
 
+-- by the configuration's jitter and quantum
 unfoldable pub delay : Config → ℕ → ℕ → ℕ → Delay
 delay c rng from base =
     let d : Draw = draw rng (c .«jitter_q») in
@@ -51,6 +52,7 @@ delayed c from base s k =
     let t : KernelState = withRngLatency s (d .rng) in
     onWord (d .time) (λ at. k at t) (haltAt TimeOverflow t)
 
+-- a delivery goes behind the others
 unfoldable pub pushDelivery : Delivery → KernelState → Run
 pushDelivery d s = putting (pushed 24 d (deliveriesRow (s .deliveries))) (λ l. withDeliveries s (deliveriesOf l)) s
 

@@ -9,6 +9,7 @@ use Rattle.book.specs.declared.state.HaltReason.the-variants.{CounterOverflow}
 use Rattle.book.specs.declared.state.KernelEvent.{KernelEvent}
 use Rattle.book.specs.declared.state.KernelState.{KernelState}
 
+-- how a step went
 pub data Outcome : Type 0 where
   -- it ran to its end
   ran : Outcome
@@ -18,20 +19,25 @@ pub data Outcome : Type 0 where
   -- end of data, with the messages that were dropped there
   ended : List VenueMsg → Outcome
 
+-- what a step gives
 pub record Run : Type 0 where
   pub outcome : Outcome
   pub state : KernelState
   pub events : List KernelEvent
 
+-- a step that leaves s and raises nothing
 abbrev pub ranTo : KernelState → Run
 ranTo s = record { outcome = ran; state = s; events = [] }
 
+-- a step that leaves s and raises one event
 abbrev pub raised : KernelEvent → KernelState → Run
 raised e s = record { outcome = ran; state = s; events = e ∷ [] }
 
+-- a step that halts in s; its event is raised by the call
 abbrev pub haltAt : HaltReason → KernelState → Run
 haltAt h s = record { outcome = halt h; state = s; events = [] }
 
+-- k where a step ran to its end, else that step
 abbrev pub onRan : Outcome → Run → Run → Run
 onRan ran r k = k
 onRan left r k = r
@@ -59,6 +65,7 @@ pub data Turn : Type 0 where
   again : Run → Turn
   last : Run → Turn
 
+-- k of a turn that is not the last
 abbrev pub onTurn : Turn → (Run → Run) → Run
 onTurn (again r) k = k r
 onTurn (last r) k = r

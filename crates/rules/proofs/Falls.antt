@@ -4,10 +4,10 @@ use mathlib.Core.Bool.{false}
 use mathlib.Core.Path.{_≡_, refl}
 use native.Mathlib.Omega.{arith}
 use lib.Dec.{leb}
-use Rattle.lists.specs.Lists.{Row, below, live, foundIn, total}
+use Rattle.lists.specs.Lists.{Row, below, total}
 use Rattle.lists.proofs.Cases.{pick-case, some-case}
 use Rattle.lists.proofs.Sums.{Took, take-case, entry-case}
-use Rattle.book.specs.Entries.{blankOrder, blankMsg, blankDelivery, blankObs, isExpiry}
+use Rattle.book.specs.Entries.{blankOrder, blankMsg, blankDelivery, blankObs}
 use Rattle.book.specs.Rows.{ordersRow, ordersOf, msgsRow, msgsOf, deliveriesRow, observedRow}
 use Rattle.book.specs.With.{withOrders, withMsgs}
 use Rattle.book.specs.declared.Delivery.{Delivery}
@@ -100,7 +100,7 @@ module _ {x : ℕ} {p : Phase} {h : ℕ} where
 
   pub removed-in : (j : ℕ) {n : ℕ} (id : ℕ) (s : KernelState) → Kept x p h j n s → Kept x p h j n (removeExpiry id s)
   unfolding removeExpiry
-  removed-in j {n = n} id s k = some-case (Kept x p h j n) (foundIn (isExpiry id) (live 16 (msgsRow (s .msgs)))) _ _
+  removed-in j {n = n} id s k = some-case (Kept x p h j n) _ _ _
       (λ i _. take-case 16 (λ t. Kept x p h j n (withMsgs s (msgsOf (t .list)))) blankMsg i (msgsRow (s .msgs)) (λ m l t. less j (omega arith) (out-in j s m l t k)) (λ _. k))
       (λ _. k)
 
@@ -114,7 +114,7 @@ module _ {x : ℕ} {p : Phase} {h : ℕ} where
 
   reject-in : (j : ℕ) {n : ℕ} (c : Config) (o : VenueOrder) (s t : KernelState) → Kept x p h (j + 3 + 1) n t → Within n (Kept x p h j) (reject c o s t)
   unfolding reject
-  reject-in j c o s t k = then-in (release-in (j + 3 + 1) o t k) (λ m u g. then-in (report-in j c _ _ u g) (λ m v g. await-in j o v g))
+  reject-in j c o s t k = then-in (release-in (j + 3 + 1) _ t k) (λ m u g. then-in (report-in j c _ _ u g) (λ m v g. await-in j o v g))
 
   activate-in : (j : ℕ) {n : ℕ} (c : Config) (o : VenueOrder) (w : MaybeU64) (s : KernelState) → Kept x p h (j + 6 + 3 + 1) n s → Within n (Kept x p h j) (activate c o w s)
   unfolding activate
@@ -127,7 +127,7 @@ module _ {x : ℕ} {p : Phase} {h : ℕ} where
   cancel-booked-in : (j : ℕ) {n : ℕ} (c : Config) (s : KernelState) (i : ℕ) (t : KernelState) → Kept x p h (j + 3 + 1) n t → Within n (Kept x p h j) (cancelBooked c s i t)
   unfolding cancelBooked
   cancel-booked-in j c s i t k = taking-in
-      (λ o l q. then-in (release-in (j + 3 + 1) o _ (fewer-in (j + 3 + 1) t o l q k)) (λ m u g. report-in j c _ _ _ (removed-in (j + 3 + 1) (o .id) u g)))
+      (λ o l q. then-in (release-in (j + 3 + 1) o _ (fewer-in (j + 3 + 1) t o l q k)) (λ m u g. report-in j c _ _ _ (removed-in (j + 3 + 1) (o .id) _ g)))
       (λ _. ran-in (less j (omega arith) k))
 
   cancel-pending-in : (j : ℕ) {n : ℕ} (c : Config) (s : KernelState) (i : ℕ) (t : KernelState) → Kept x p h (j + 3 + 1) n t → Within n (Kept x p h j) (cancelPending c s i t)

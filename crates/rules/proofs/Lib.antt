@@ -2,7 +2,7 @@ pub mod Loop
 pub mod Within
 pub mod Falls
 pub mod Fewer
-pub mod Bound
+pub mod EventsBound
 pub mod Cases
 pub mod Kept
 pub mod Steps

@@ -3,6 +3,7 @@ use Prim.Native.Nat.{ℕ}
 use mathlib.Core.Option.{Option, none, some}
 use lib.ListN.{replicate}
 use Rattle.lists.specs.Lists.{Row, Put, Taken}
+use Rattle.book.specs.Capacities.{ordersCapacity, msgsCapacity, deliveriesCapacity, observedCapacity, accountCapacity}
 use Rattle.book.specs.Entries.{blankOrder, blankMsg, blankDelivery, blankObs, blankOpen}
 use Rattle.book.specs.declared.VenueOrder.{VenueOrder}
 use Rattle.book.specs.declared.VenueMsg.{VenueMsg}
@@ -53,7 +54,7 @@ abbrev pub ordersTaken : OrdersTaken → Taken VenueOrder
 ordersTaken t = record { got = orderIn (t .got); list = ordersRow (t .list) }
 
 abbrev pub emptyOrders : Orders
-emptyOrders = record { slots = replicate 8 blankOrder; count = 0 }
+emptyOrders = record { slots = replicate ordersCapacity blankOrder; count = 0 }
 
 -- ---- msgs: 16
 abbrev pub msgsRow : Msgs → Row VenueMsg
@@ -73,7 +74,7 @@ abbrev pub msgsTaken : MsgsTaken → Taken VenueMsg
 msgsTaken t = record { got = msgIn (t .got); list = msgsRow (t .list) }
 
 abbrev pub emptyMsgs : Msgs
-emptyMsgs = record { slots = replicate 16 blankMsg; count = 0 }
+emptyMsgs = record { slots = replicate msgsCapacity blankMsg; count = 0 }
 
 -- ---- deliveries: 24
 abbrev pub deliveriesRow : Deliveries → Row Delivery
@@ -93,7 +94,7 @@ abbrev pub deliveriesTaken : DeliveriesTaken → Taken Delivery
 deliveriesTaken t = record { got = deliveryIn (t .got); list = deliveriesRow (t .list) }
 
 abbrev pub emptyDeliveries : Deliveries
-emptyDeliveries = record { slots = replicate 24 blankDelivery; count = 0 }
+emptyDeliveries = record { slots = replicate deliveriesCapacity blankDelivery; count = 0 }
 
 -- ---- observed: 16
 abbrev pub observedRow : Observed → Row ObsEntry
@@ -113,7 +114,7 @@ abbrev pub observedTaken : ObservedTaken → Taken ObsEntry
 observedTaken t = record { got = obsIn (t .got); list = observedRow (t .list) }
 
 abbrev pub emptyObserved : Observed
-emptyObserved = record { slots = replicate 16 blankObs; count = 0 }
+emptyObserved = record { slots = replicate observedCapacity blankObs; count = 0 }
 
 -- ---- account: 8
 abbrev pub accountRow : AgentAccount → Row OpenOrder
@@ -133,4 +134,4 @@ abbrev pub accountTaken : AgentAccountTaken → Taken OpenOrder
 accountTaken t = record { got = openedIn (t .got); list = accountRow (t .list) }
 
 abbrev pub emptyAgentAccount : AgentAccount
-emptyAgentAccount = record { slots = replicate 8 blankOpen; count = 0 }
+emptyAgentAccount = record { slots = replicate accountCapacity blankOpen; count = 0 }

@@ -4,8 +4,11 @@ use super::MsgKind;
 use super::VenueMsg;
 ghost use mathlib.Core.Path.{_≡_};
 ghost use Rattle.lists.specs.Lists.{live, before, foundIn, putAt, putBefore, takeAt, popped, entryAt, emptied};
+ghost use Rattle.book.specs.Capacities.{msgsCapacity};
 ghost use Rattle.book.specs.Entries.{blankMsg, isLater, isActivation, isExpiry, place};
 ghost use Rattle.book.specs.Rows.{emptyMsgs, msgsRow, msgsPut, msgsTaken, msgIn};
+
+pub const CAPACITY: usize = 16;
 
 impl VenueMsg {
     // Whether its pair is greater than (eff_ns, seq).
@@ -42,7 +45,7 @@ impl VenueMsg {
 }
 
 pub struct Msgs {
-    pub slots: [VenueMsg; 16],
+    pub slots: [VenueMsg; CAPACITY],
     pub count: usize,
 }
 
@@ -66,16 +69,16 @@ impl Msgs {
         ensures { λ r. ⌜ r ≡ emptyMsgs ⌝ }
     {
         let blank = VenueMsg::blank();
-        let slots = [blank; 16];
+        let slots = [blank; CAPACITY];
         Msgs { slots, count: 0 }
     }
 
     pub fn get(self, at: usize) -> MaybeMsg
-        ensures { λ r. ⌜ msgIn r ≡ entryAt 16 blankMsg at (msgsRow self) ⌝ }
+        ensures { λ r. ⌜ msgIn r ≡ entryAt msgsCapacity blankMsg at (msgsRow self) ⌝ }
     {
         let list = self;
         let count = list.count;
-        if count > 16 {
+        if count > CAPACITY {
             return MaybeMsg::None;
         }
         if at >= count {
@@ -86,10 +89,10 @@ impl Msgs {
 
     // Each entry from the place on moves one slot up: it is carried to its new slot by the one before it.
     pub fn insert(self, at: usize, value: VenueMsg) -> MsgsPut
-        ensures { λ r. ⌜ msgsPut r ≡ putAt 16 at value (msgsRow self) ⌝ }
+        ensures { λ r. ⌜ msgsPut r ≡ putAt msgsCapacity at value (msgsRow self) ⌝ }
     {
         let count = self.count;
-        if count >= 16 {
+        if count >= CAPACITY {
             return MsgsPut {
                 ok: false,
                 list: self,
@@ -117,10 +120,10 @@ impl Msgs {
 
     // Each entry behind the place moves one slot down, and the last live slot becomes blank.
     pub fn remove(self, at: usize) -> MsgsTaken
-        ensures { λ r. ⌜ msgsTaken r ≡ takeAt 16 blankMsg at (msgsRow self) ⌝ }
+        ensures { λ r. ⌜ msgsTaken r ≡ takeAt msgsCapacity blankMsg at (msgsRow self) ⌝ }
     {
         let count = self.count;
-        if count > 16 {
+        if count > CAPACITY {
             return MsgsTaken {
                 got: MaybeMsg::None,
                 list: self,
@@ -149,16 +152,16 @@ impl Msgs {
     }
 
     pub fn pop_front(self) -> MsgsTaken
-        ensures { λ r. ⌜ msgsTaken r ≡ popped 16 blankMsg (msgsRow self) ⌝ }
+        ensures { λ r. ⌜ msgsTaken r ≡ popped msgsCapacity blankMsg (msgsRow self) ⌝ }
     {
         self.remove(0)
     }
 
     pub fn clear(self) -> Msgs
-        ensures { λ r. ⌜ msgsRow r ≡ emptied 16 blankMsg (msgsRow self) ⌝ }
+        ensures { λ r. ⌜ msgsRow r ≡ emptied msgsCapacity blankMsg (msgsRow self) ⌝ }
     {
         let count = self.count;
-        if count > 16 {
+        if count > CAPACITY {
             return self;
         }
         let mut next = self;
@@ -172,11 +175,11 @@ impl Msgs {
 
     // The first activation of this order.
     pub fn activation(self, id: u64) -> Found
-        ensures { λ r. ⌜ place r ≡ foundIn (isActivation id) (live 16 (msgsRow self)) ⌝ }
+        ensures { λ r. ⌜ place r ≡ foundIn (isActivation id) (live msgsCapacity (msgsRow self)) ⌝ }
     {
         let list = self;
         let count = list.count;
-        if count > 16 {
+        if count > CAPACITY {
             return Found::None;
         }
         for i in 0..count {
@@ -190,11 +193,11 @@ impl Msgs {
 
     // The first expiry of this order.
     pub fn expiry(self, id: u64) -> Found
-        ensures { λ r. ⌜ place r ≡ foundIn (isExpiry id) (live 16 (msgsRow self)) ⌝ }
+        ensures { λ r. ⌜ place r ≡ foundIn (isExpiry id) (live msgsCapacity (msgsRow self)) ⌝ }
     {
         let list = self;
         let count = list.count;
-        if count > 16 {
+        if count > CAPACITY {
             return Found::None;
         }
         for i in 0..count {
@@ -208,11 +211,11 @@ impl Msgs {
 
     // Before the first with a greater pair, else behind the last.
     pub fn place_by_key(self, eff_ns: u64, seq: u64) -> usize
-        ensures { λ r. ⌜ r ≡ before (isLater «eff_ns» seq) (live 16 (msgsRow self)) ⌝ }
+        ensures { λ r. ⌜ r ≡ before (isLater «eff_ns» seq) (live msgsCapacity (msgsRow self)) ⌝ }
     {
         let list = self;
         let count = list.count;
-        if count > 16 {
+        if count > CAPACITY {
             return 0;
         }
         for i in 0..count {
@@ -225,7 +228,7 @@ impl Msgs {
     }
 
     pub fn insert_by_key(self, value: VenueMsg) -> MsgsPut
-        ensures { λ r. ⌜ msgsPut r ≡ putBefore 16 (isLater (value .«eff_ns») (value .seq)) value (msgsRow self) ⌝ }
+        ensures { λ r. ⌜ msgsPut r ≡ putBefore msgsCapacity (isLater (value .«eff_ns») (value .seq)) value (msgsRow self) ⌝ }
     {
         let at = self.place_by_key(value.eff_ns, value.seq);
         self.insert(at, value)

@@ -3,8 +3,11 @@ use super::Found;
 use super::VenueOrder;
 ghost use mathlib.Core.Path.{_≡_};
 ghost use Rattle.lists.specs.Lists.{live, before, foundIn, putAt, pushed, putBefore, takeAt, entryAt, storeAt};
+ghost use Rattle.book.specs.Capacities.{ordersCapacity};
 ghost use Rattle.book.specs.Entries.{blankOrder, isOpen, hasId, idAbove, place};
 ghost use Rattle.book.specs.Rows.{emptyOrders, ordersRow, ordersPut, ordersTaken, orderIn};
+
+pub const CAPACITY: usize = 8;
 
 impl VenueOrder {
     // Whether it has this number and is not terminal.
@@ -23,7 +26,7 @@ impl VenueOrder {
 }
 
 pub struct Orders {
-    pub slots: [VenueOrder; 8],
+    pub slots: [VenueOrder; CAPACITY],
     pub count: usize,
 }
 
@@ -47,16 +50,16 @@ impl Orders {
         ensures { λ r. ⌜ r ≡ emptyOrders ⌝ }
     {
         let blank = VenueOrder::blank();
-        let slots = [blank; 8];
+        let slots = [blank; CAPACITY];
         Orders { slots, count: 0 }
     }
 
     pub fn get(self, at: usize) -> MaybeOrder
-        ensures { λ r. ⌜ orderIn r ≡ entryAt 8 blankOrder at (ordersRow self) ⌝ }
+        ensures { λ r. ⌜ orderIn r ≡ entryAt ordersCapacity blankOrder at (ordersRow self) ⌝ }
     {
         let list = self;
         let count = list.count;
-        if count > 8 {
+        if count > CAPACITY {
             return MaybeOrder::None;
         }
         if at >= count {
@@ -67,10 +70,10 @@ impl Orders {
 
     // Each entry from the place on moves one slot up: it is carried to its new slot by the one before it.
     pub fn insert(self, at: usize, value: VenueOrder) -> OrdersPut
-        ensures { λ r. ⌜ ordersPut r ≡ putAt 8 at value (ordersRow self) ⌝ }
+        ensures { λ r. ⌜ ordersPut r ≡ putAt ordersCapacity at value (ordersRow self) ⌝ }
     {
         let count = self.count;
-        if count >= 8 {
+        if count >= CAPACITY {
             return OrdersPut {
                 ok: false,
                 list: self,
@@ -97,10 +100,10 @@ impl Orders {
     }
 
     pub fn push(self, value: VenueOrder) -> OrdersPut
-        ensures { λ r. ⌜ ordersPut r ≡ pushed 8 value (ordersRow self) ⌝ }
+        ensures { λ r. ⌜ ordersPut r ≡ pushed ordersCapacity value (ordersRow self) ⌝ }
     {
         let count = self.count;
-        if count >= 8 {
+        if count >= CAPACITY {
             return OrdersPut {
                 ok: false,
                 list: self,
@@ -117,10 +120,10 @@ impl Orders {
 
     // Each entry behind the place moves one slot down, and the last live slot becomes blank.
     pub fn remove(self, at: usize) -> OrdersTaken
-        ensures { λ r. ⌜ ordersTaken r ≡ takeAt 8 blankOrder at (ordersRow self) ⌝ }
+        ensures { λ r. ⌜ ordersTaken r ≡ takeAt ordersCapacity blankOrder at (ordersRow self) ⌝ }
     {
         let count = self.count;
-        if count > 8 {
+        if count > CAPACITY {
             return OrdersTaken {
                 got: MaybeOrder::None,
                 list: self,
@@ -149,10 +152,10 @@ impl Orders {
     }
 
     pub fn store(self, at: usize, value: VenueOrder) -> OrdersPut
-        ensures { λ r. ⌜ ordersPut r ≡ storeAt 8 at value (ordersRow self) ⌝ }
+        ensures { λ r. ⌜ ordersPut r ≡ storeAt ordersCapacity at value (ordersRow self) ⌝ }
     {
         let count = self.count;
-        if count > 8 {
+        if count > CAPACITY {
             return OrdersPut {
                 ok: false,
                 list: self,
@@ -174,11 +177,11 @@ impl Orders {
 
     // The first order of this number that is not terminal.
     pub fn booked(self, id: u64) -> Found
-        ensures { λ r. ⌜ place r ≡ foundIn (isOpen id) (live 8 (ordersRow self)) ⌝ }
+        ensures { λ r. ⌜ place r ≡ foundIn (isOpen id) (live ordersCapacity (ordersRow self)) ⌝ }
     {
         let list = self;
         let count = list.count;
-        if count > 8 {
+        if count > CAPACITY {
             return Found::None;
         }
         for i in 0..count {
@@ -192,11 +195,11 @@ impl Orders {
 
     // The first order of this number, whatever its state.
     pub fn position(self, id: u64) -> Found
-        ensures { λ r. ⌜ place r ≡ foundIn (hasId id) (live 8 (ordersRow self)) ⌝ }
+        ensures { λ r. ⌜ place r ≡ foundIn (hasId id) (live ordersCapacity (ordersRow self)) ⌝ }
     {
         let list = self;
         let count = list.count;
-        if count > 8 {
+        if count > CAPACITY {
             return Found::None;
         }
         for i in 0..count {
@@ -210,11 +213,11 @@ impl Orders {
 
     // Before the first of a greater number, else behind the last.
     pub fn place_by_id(self, id: u64) -> usize
-        ensures { λ r. ⌜ r ≡ before (idAbove id) (live 8 (ordersRow self)) ⌝ }
+        ensures { λ r. ⌜ r ≡ before (idAbove id) (live ordersCapacity (ordersRow self)) ⌝ }
     {
         let list = self;
         let count = list.count;
-        if count > 8 {
+        if count > CAPACITY {
             return 0;
         }
         for i in 0..count {
@@ -228,7 +231,7 @@ impl Orders {
 
     // The Rust's insert_by_id.
     pub fn insert_by_id(self, value: VenueOrder) -> OrdersPut
-        ensures { λ r. ⌜ ordersPut r ≡ putBefore 8 (idAbove (value .id)) value (ordersRow self) ⌝ }
+        ensures { λ r. ⌜ ordersPut r ≡ putBefore ordersCapacity (idAbove (value .id)) value (ordersRow self) ⌝ }
     {
         let at = self.place_by_id(value.id);
         self.insert(at, value)

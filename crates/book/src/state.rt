@@ -1,4 +1,4 @@
-// The state of the advance (state.rs of the Rust, with the gate's of gate.rs and the agent's of ledger.rs), and what it tells.
+// The state of the advance (state.rs of the Rust, with the gate's of gate.rs and the agent's of ledger.rs), and the events that it raises.
 // The fields and names are the Rust's. Those of one purpose are grouped, since a field that is an enum is not stored to: the small struct around it is made anew.
 use super::FillRec;
 use super::ReportRec;
@@ -93,7 +93,7 @@ pub struct KernelState {
     pub counters: Counters,
 }
 
-// What the advance tells, in the order of the paper's numbers, 1 to 10.
+// The events, in the order of the paper's numbers, 1 to 10.
 pub enum KernelEvent {
     Report(ReportRec),
     Fill(FillRec),

@@ -1,1 +1,1 @@
-pub mod TurnWays
+pub mod TurnExits

@@ -10,18 +10,18 @@ use Rattle.book.specs.declared.state.Phase.{Phase}
 use Rattle.book.specs.declared.state.Phase.the-variants.{BeforeMatch, ObsQueued, AwaitDecision, Terminal}
 use Rattle.rules.specs.Calls as calls
 use Rattle.rules.specs.Log.{written}
-use Rattle.kernel.specs.Told.{answerTold}
+use Rattle.kernel.specs.Calls.{answerTold}
 use Rattle.kernel.specs.declared.Answer.{Answer}
 use Rattle.kernel.specs.declared.Answer.the-variants as answer
 use Rattle.text.specs.Write.{Text, textAt, texted}
-use Rattle.lines.specs.Print.{callText, filledBy, lastLine}
+use Rattle.lines.specs.Print.{callText, filledAfter, lastLine}
 use Rattle.day.specs.declared.Turned.{Turned}
 
-abbrev pub isTerminal : Phase → Bool
-isTerminal BeforeMatch = false
-isTerminal ObsQueued = false
-isTerminal AwaitDecision = false
-isTerminal Terminal = true
+abbrev pub isTerminalPhase : Phase → Bool
+isTerminalPhase BeforeMatch = false
+isTerminalPhase ObsQueued = false
+isTerminalPhase AwaitDecision = false
+isTerminalPhase Terminal = true
 
 -- a call ran: it was not refused
 abbrev pub hasRun : Answer → Bool
@@ -38,12 +38,12 @@ pub record Turn : Type 0 where
 
 -- a turn of a call that raised n events, whose log this is
 abbrev pub turnOf : Bool → KernelState → ℕ → List ℕ → ℕ → List ℕ → Turn
-turnOf more s filled log n out = record { more = more; state = s; filled = filledBy filled log n; log = log; text = texted (textAt out 0) (callText log n) }
+turnOf more s filled log n out = record { more = more; state = s; filled = filledAfter filled log n; log = log; text = texted (textAt out 0) (callText log n) }
 
 -- "passes until Terminal": the run ends at Terminal, else it goes on behind a pass that is not refused
 unfoldable pub passedOn : KernelState → ℕ → List ℕ → ℕ → List ℕ → Turn
 passedOn s filled log n out =
-    pick (isTerminal (s .control .phase))
+    pick (isTerminalPhase (s .control .phase))
     (turnOf false s filled log n out)
     (turnOf (hasRun (answerTold (calls.pass s .did))) (calls.pass s .state) filled log n out)
 
@@ -58,8 +58,8 @@ unfoldable pub printedBy : Config → List ℕ → KernelState → List ℕ → 
 printedBy c rows s log = callText (written log (calls.advance c rows s .events)) (length (calls.advance c rows s .events))
 
 -- what the code hands back, with the log and the bytes that it was lent
-abbrev pub shown : Turned → List ℕ → List ℕ → Turn
-shown t log out = record { more = t .more; state = t .state; filled = t .filled; log = log; text = textAt out (t .length) }
+abbrev pub actualTurn : Turned → List ℕ → List ℕ → Turn
+actualTurn t log out = record { more = t .more; state = t .state; filled = t .filled; log = log; text = textAt out (t .length) }
 
 -- "Last: venue position, live buy and sell, and the summed qty of printed fill reports."
 abbrev pub lastOf : KernelState → ℕ → List ℕ

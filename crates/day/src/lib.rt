@@ -11,7 +11,7 @@ use lines::put_last;
 ghost use mathlib.Core.Path.{_≡_};
 ghost use lib.ListN.{length, take};
 ghost use Rattle.text.specs.Write.{textAt, texted};
-ghost use Rattle.day.specs.Day.{isTerminal, hasRun, shown, turned, printedBy, lastOf};
+ghost use Rattle.day.specs.Day.{isTerminalPhase, hasRun, actualTurn, turned, printedBy, lastOf};
 
 // What a turn leaves: whether the run goes on, the state, the filled sum so far, and how many bytes of text.
 pub struct Turned {
@@ -22,7 +22,7 @@ pub struct Turned {
 }
 
 fn is_terminal(phase: Phase) -> bool
-    ensures { λ r. ⌜ r ≡ isTerminal phase ⌝ }
+    ensures { λ r. ⌜ r ≡ isTerminalPhase phase ⌝ }
 {
     match phase {
         Phase::BeforeMatch => false,
@@ -50,7 +50,7 @@ pub fn turn(
     log: &mut [u64],
     out: &mut [u8],
 ) -> Turned
-    ensures { λ r. ⌜ shown r (now (log .exit)) (now (out .exit)) ≡ turned cfg (now (rows .entry)) state filled (now (log .entry)) (now (out .entry)) ⌝ }
+    ensures { λ r. ⌜ actualTurn r (now (log .exit)) (now (out .exit)) ≡ turned cfg (now (rows .entry)) state filled (now (log .entry)) (now (out .entry)) ⌝ }
     ensures { λ r. ⌜ (length (now (log .entry)) ≡ 6144 → length (now (out .entry)) ≡ 65536 → take (r .length) (now (out .exit)) ≡ printedBy cfg (now (rows .entry)) state (now (log .entry))) ⌝ }
 {
     let a = advance(cfg, rows, state, log);

@@ -1,1 +1,1 @@
-pub mod DeliveryWays
+pub mod DeliveryExits

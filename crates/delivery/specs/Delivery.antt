@@ -8,19 +8,19 @@ use Rattle.book.specs.declared.state.KernelState.{KernelState}
 use Rattle.reports.specs.declared.Step.{Step}
 use Rattle.delivery.specs.declared.AgentStep.{AgentStep}
 use Rattle.delivery.specs.declared.Emptied.{Emptied}
-use Rattle.delivery.specs.declared.Handed.{Handed}
+use Rattle.delivery.specs.declared.DeliveryStep.{DeliveryStep}
 
 abbrev pub agentIn : KernelState → ℕ → AgentStep → Step
 agentIn s n a = record { outcome = a .outcome; state = withAgent s (a .agent); raised = n }
 
-abbrev pub withHanded : KernelState → AgentView → AgentAccount → KernelState
-withHanded s g a = withAccount (withAgent s g) a
+abbrev pub withDelivered : KernelState → AgentView → AgentAccount → KernelState
+withDelivered s g a = withAccount (withAgent s g) a
 
-abbrev pub handedIn : KernelState → Handed → Step
-handedIn s h = record { outcome = h .outcome; state = withHanded s (h .agent) (h .account); raised = h .raised }
+abbrev pub deliveryStepIn : KernelState → DeliveryStep → Step
+deliveryStepIn s h = record { outcome = h .outcome; state = withDelivered s (h .agent) (h .account); raised = h .raised }
 
 abbrev pub withEmptied : KernelState → Deliveries → AgentView → AgentAccount → KernelState
-withEmptied s d g a = withHanded (withDeliveries s d) g a
+withEmptied s d g a = withDelivered (withDeliveries s d) g a
 
 abbrev pub emptiedIn : KernelState → Emptied → Step
 emptiedIn s e = record { outcome = e .outcome; state = withEmptied s (e .deliveries) (e .agent) (e .account); raised = e .raised }

@@ -28,12 +28,13 @@ ghost use mathlib.Core.Path.{_≡_};
 ghost use mathlib.Core.List.{List, map};
 ghost use Prim.Native.Nat.{ℕ};
 ghost use Rattle.lists.specs.Lists.{live};
+ghost use Rattle.book.specs.Capacities.{msgsCapacity};
 ghost use Rattle.book.specs.Rows.{msgsRow};
 ghost use Rattle.book.specs.With.{withAgent};
 ghost use Rattle.book.specs.declared.state.KernelState.{KernelState};
-ghost use Rattle.rules.specs.Delivery.{moveAgent, countReject, isRejected, isLocal, handed, deliverAll, droppedBy, droppedEvent, closeData, endOfData};
-ghost use Rattle.reports.specs.Log.{logAt, played, seen, noted};
-ghost use Rattle.delivery.specs.Delivery.{agentIn, handedIn, withHanded, emptiedIn, withEmptied};
+ghost use Rattle.rules.specs.Delivery.{moveAgent, countReject, isRejected, isLocal, deliver, deliverAll, droppedBy, droppedEvent, closeData, endOfData};
+ghost use Rattle.reports.specs.Log.{logAt, expected, actual, appendEvents};
+ghost use Rattle.delivery.specs.Delivery.{agentIn, deliveryStepIn, withDelivered, emptiedIn, withEmptied};
 
 // What a delivery does to the agent.
 pub struct AgentStep {
@@ -42,7 +43,7 @@ pub struct AgentStep {
 }
 
 // What a delivery changes of the state, beside its leaving the list.
-pub struct Handed {
+pub struct DeliveryStep {
     pub outcome: Outcome,
     pub agent: AgentView,
     pub account: AgentAccount,
@@ -60,7 +61,7 @@ pub struct Emptied {
 
 // The agent's position moves by the fill's record, and the fill is counted.
 fn move_agent(fill: MaybeFill, agent: AgentView) -> AgentStep
-    ensures { λ r. ⌜ ((s : KernelState) (n : ℕ) (w : List ℕ) → seen (agentIn s n r) w ≡ played (logAt w n) (moveAgent fill (withAgent s agent))) ⌝ }
+    ensures { λ r. ⌜ ((s : KernelState) (n : ℕ) (w : List ℕ) → actual (agentIn s n r) w ≡ expected (logAt w n) (moveAgent fill (withAgent s agent))) ⌝ }
 {
     let MaybeFill::Some(f) = fill else {
         return AgentStep {
@@ -117,7 +118,7 @@ fn is_local(origin: Origin) -> bool
 
 // A local rejection is counted.
 fn count_reject(report: ReportRec, agent: AgentView) -> AgentStep
-    ensures { λ r. ⌜ ((s : KernelState) (n : ℕ) (w : List ℕ) → seen (agentIn s n r) w ≡ played (logAt w n) (countReject report (withAgent s agent))) ⌝ }
+    ensures { λ r. ⌜ ((s : KernelState) (n : ℕ) (w : List ℕ) → actual (agentIn s n r) w ≡ expected (logAt w n) (countReject report (withAgent s agent))) ⌝ }
 {
     let kind = report.kind;
     if !is_rejected(kind) {
@@ -149,14 +150,14 @@ fn count_reject(report: ReportRec, agent: AgentView) -> AgentStep
 }
 
 // A delivery that has left the list reaches the agent.
-pub fn hand(
+pub fn deliver(
     log: &mut [u64],
     raised: u64,
     delivery: Delivery,
     agent: AgentView,
     account: AgentAccount,
-) -> Handed
-    ensures { λ r. ⌜ ((s : KernelState) → seen (handedIn s r) (now (log .exit)) ≡ played (logAt (now (log .entry)) raised) (handed delivery (withHanded s agent account))) ⌝ }
+) -> DeliveryStep
+    ensures { λ r. ⌜ ((s : KernelState) → actual (deliveryStepIn s r) (now (log .exit)) ≡ expected (logAt (now (log .entry)) raised) (deliver delivery (withDelivered s agent account))) ⌝ }
 {
     let report = delivery.report;
     let n = emit(log, raised, KernelEvent::Delivered(report));
@@ -165,7 +166,7 @@ pub fn hand(
     let moved = a.agent;
     let o = a.outcome;
     let Outcome::Ran = o else {
-        return Handed {
+        return DeliveryStep {
             outcome: o,
             agent: moved,
             account,
@@ -176,18 +177,18 @@ pub fn hand(
     let counted = b.agent;
     let p = b.outcome;
     let Outcome::Ran = p else {
-        return Handed {
+        return DeliveryStep {
             outcome: p,
             agent: counted,
             account,
             raised: n,
         };
     };
-    let told = on_delivery(account, report);
-    Handed {
+    let entries = on_delivery(account, report);
+    DeliveryStep {
         outcome: Outcome::Ran,
         agent: counted,
-        account: told,
+        account: entries,
         raised: n,
     }
 }
@@ -200,7 +201,7 @@ fn deliver_all(
     agent: AgentView,
     account: AgentAccount,
 ) -> Emptied
-    ensures { λ r. ⌜ ((s : KernelState) → seen (emptiedIn s r) (now (log .exit)) ≡ played (logAt (now (log .entry)) raised) (deliverAll (deliveries .count) (withEmptied s deliveries agent account))) ⌝ }
+    ensures { λ r. ⌜ ((s : KernelState) → actual (emptiedIn s r) (now (log .exit)) ≡ expected (logAt (now (log .entry)) raised) (deliverAll (deliveries .count) (withEmptied s deliveries agent account))) ⌝ }
 {
     let mut d = deliveries;
     let mut g = agent;
@@ -213,7 +214,7 @@ fn deliver_all(
             break Outcome::Ran;
         };
         d = taken.list;
-        let h = hand(log, n, delivery, g, a);
+        let h = deliver(log, n, delivery, g, a);
         g = h.agent;
         a = h.account;
         n = h.raised;
@@ -247,14 +248,14 @@ fn dropped_event(kind: MsgKind) -> KernelEvent
     }
 }
 
-// Each message that is dropped at the end of the data is told.
-fn tell_dropped(log: &mut [u64], raised: u64, msgs: Msgs) -> u64
-    ensures { λ r. ⌜ logAt (now (log .exit)) r ≡ noted (logAt (now (log .entry)) raised) (map droppedEvent (live 16 (msgsRow msgs))) ⌝ }
+// An event for each message that is dropped at the end of the data.
+fn emit_dropped(log: &mut [u64], raised: u64, msgs: Msgs) -> u64
+    ensures { λ r. ⌜ logAt (now (log .exit)) r ≡ appendEvents (logAt (now (log .entry)) raised) (map droppedEvent (live msgsCapacity (msgsRow msgs))) ⌝ }
 {
     let list = msgs;
     let count = list.count;
     let mut n = raised;
-    if count > 16 {
+    if count > book::msgs::CAPACITY {
         return n;
     }
     for i in 0..count {
@@ -268,11 +269,11 @@ fn tell_dropped(log: &mut [u64], raised: u64, msgs: Msgs) -> u64
 
 // No delivery is left: the messages and observations are dropped and counted.
 fn close_data(log: &mut [u64], raised: u64, s: KernelState) -> Step
-    ensures { λ r. ⌜ seen r (now (log .exit)) ≡ played (logAt (now (log .entry)) raised) (closeData s) ⌝ }
+    ensures { λ r. ⌜ actual r (now (log .exit)) ≡ expected (logAt (now (log .entry)) raised) (closeData s) ⌝ }
 {
     let msgs = s.msgs;
     let observed = s.observed;
-    let n = tell_dropped(log, raised, msgs);
+    let n = emit_dropped(log, raised, msgs);
     let dropped_msgs = msgs.count as u64;
     let dropped_obs = observed.count as u64;
     let no_msgs = msgs.clear();
@@ -326,7 +327,7 @@ fn close_data(log: &mut [u64], raised: u64, s: KernelState) -> Step
 }
 
 pub fn end_of_data(log: &mut [u64], raised: u64, s: KernelState) -> Step
-    ensures { λ r. ⌜ seen r (now (log .exit)) ≡ played (logAt (now (log .entry)) raised) (endOfData s) ⌝ }
+    ensures { λ r. ⌜ actual r (now (log .exit)) ≡ expected (logAt (now (log .entry)) raised) (endOfData s) ⌝ }
 {
     let deliveries = s.deliveries;
     let agent = s.agent;

@@ -1,3 +1,3 @@
-pub mod EventsWays
-pub mod PhasesWays
-pub mod CallsWays
+pub mod EventsExits
+pub mod PhasesExits
+pub mod CallsExits

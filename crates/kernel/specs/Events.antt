@@ -13,22 +13,22 @@ use Rattle.kernel.specs.declared.events.Class.{Class}
 use Rattle.kernel.specs.declared.events.Class.the-variants as class
 use Rattle.kernel.specs.declared.events.Next.{Next}
 use Rattle.kernel.specs.declared.events.Next.the-variants as next
-use Rattle.kernel.specs.declared.events.Looked.{Looked}
+use Rattle.kernel.specs.declared.events.ObsTaken.{ObsTaken}
 
-abbrev pub classTold : Class → walk.Class
-classTold class.Venue = walk.venue
-classTold class.Delivery = walk.delivery
-classTold class.Observation = walk.observation
+abbrev pub ruleClass : Class → walk.Class
+ruleClass class.Venue = walk.venue
+ruleClass class.Delivery = walk.delivery
+ruleClass class.Observation = walk.observation
 
-abbrev pub nextTold : Next → walk.Next
-nextTold next.Nothing = walk.nothing
-nextTold (next.At k t) = walk.next (classTold k) t
+abbrev pub ruleNext : Next → walk.Next
+ruleNext next.Nothing = walk.nothing
+ruleNext (next.At k t) = walk.next (ruleClass k) t
 
 abbrev pub withQueues : KernelState → Msgs → Deliveries → Observed → KernelState
 withQueues s m d o = withObserved (withDeliveries (withMsgs s m) d) o
 
-abbrev pub withLooked : KernelState → ℕ → Control → Observed → AgentView → KernelState
-withLooked s now c o a = withAgent (withObserved (withControl (withClock s (clockNowNs (s .clock) now)) c) o) a
+abbrev pub withObsTaken : KernelState → ℕ → Control → Observed → AgentView → KernelState
+withObsTaken s now c o a = withAgent (withObserved (withControl (withClock s (clockNowNs (s .clock) now)) c) o) a
 
-abbrev pub lookedIn : KernelState → ℕ → Looked → Step
-lookedIn s now l = record { outcome = l .outcome; state = withLooked s now (l .control) (l .observed) (l .agent); raised = l .raised }
+abbrev pub obsTakenIn : KernelState → ℕ → ObsTaken → Step
+obsTakenIn s now l = record { outcome = l .outcome; state = withObsTaken s now (l .control) (l .observed) (l .agent); raised = l .raised }

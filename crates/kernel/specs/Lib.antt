@@ -1,3 +1,3 @@
 pub mod Events
 pub mod Phases
-pub mod Told
+pub mod Calls

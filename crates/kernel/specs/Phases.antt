@@ -25,15 +25,15 @@ use Rattle.kernel.specs.declared.phases.Onward.the-variants as onward
 use Rattle.kernel.specs.declared.phases.Work.{Work}
 use Rattle.kernel.specs.declared.phases.Work.the-variants as work
 
-abbrev pub tickTold : MaybeTick → Option KernelTick
-tickTold tick.None = none
-tickTold (tick.Some t) = some t
+abbrev pub ruleTick : MaybeTick → Option KernelTick
+ruleTick tick.None = none
+ruleTick (tick.Some t) = some t
 
 abbrev pub withObs : KernelState → ℕ → Clock → Observed → Control → KernelState
 withObs s g c o k = withControl (withObserved (withClock (withRngLatency s g) c) o) k
 
-abbrev pub obsIn : KernelState → ℕ → ObsStep → Step
-obsIn s n q = record { outcome = q .outcome; state = withObs s (q .«rng_latency») (q .clock) (q .observed) (q .control); raised = n }
+abbrev pub obsStepIn : KernelState → ℕ → ObsStep → Step
+obsStepIn s n q = record { outcome = q .outcome; state = withObs s (q .«rng_latency») (q .clock) (q .observed) (q .control); raised = n }
 
 -- the work on the row of a number, if there is that row
 abbrev pub workOn : Work → ℕ → Option KernelTick → Job

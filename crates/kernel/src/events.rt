@@ -12,7 +12,7 @@ use book::state::KernelEvent;
 use book::state::KernelState;
 use book::state::Phase;
 use book::state::Status;
-use delivery::hand;
+use delivery::deliver;
 use messages::apply_next_msg;
 use numbers::MaybeU64;
 use numbers::words::max;
@@ -23,8 +23,8 @@ ghost use mathlib.Core.Path.{_≡_};
 ghost use Rattle.book.specs.declared.state.KernelState.{KernelState};
 ghost use Rattle.rules.specs.Events.{truncated, pausedAt, popObservation, dueBy, sooner, nextMsg, nextDelivery, nextObservation, nextOf, runEvents};
 ghost use Rattle.book.specs.With.{withMsgs, withDeliveries, withObserved};
-ghost use Rattle.reports.specs.Log.{logAt, played, seen};
-ghost use Rattle.kernel.specs.Events.{classTold, nextTold, lookedIn, withLooked, withQueues};
+ghost use Rattle.reports.specs.Log.{logAt, expected, queue};
+ghost use Rattle.kernel.specs.Events.{ruleClass, ruleNext, obsTakenIn, withObsTaken, withQueues};
 
 // Event classes, in their order at equal times.
 pub enum Class {
@@ -40,7 +40,7 @@ pub enum Next {
 }
 
 // What an observation changes of the state.
-pub struct Looked {
+pub struct ObsTaken {
     pub outcome: Outcome,
     pub control: Control,
     pub observed: Observed,
@@ -90,13 +90,13 @@ pub fn pop_observation(
     control: Control,
     observed: Observed,
     agent: AgentView,
-) -> Looked
-    ensures { λ r. ⌜ ((s : KernelState) → seen (lookedIn s «now_ns» r) (now (log .exit)) ≡ played (logAt (now (log .entry)) raised) (popObservation cfg (withLooked s «now_ns» control observed agent))) ⌝ }
+) -> ObsTaken
+    ensures { λ r. ⌜ ((s : KernelState) → queue (obsTakenIn s «now_ns» r) (now (log .exit)) ≡ expected (logAt (now (log .entry)) raised) (popObservation cfg (withObsTaken s «now_ns» control observed agent))) ⌝ }
 {
     let taken = observed.pop_front();
     let got = taken.got;
     let MaybeObs::Some(entry) = got else {
-        return Looked {
+        return ObsTaken {
             outcome: Outcome::Ran,
             control,
             observed,
@@ -107,7 +107,7 @@ pub fn pop_observation(
     let rest = taken.list;
     if cfg.s_max <= control.step {
         let over = truncate(control);
-        return Looked {
+        return ObsTaken {
             outcome: Outcome::Left,
             control: over,
             observed: rest,
@@ -125,23 +125,23 @@ pub fn pop_observation(
     );
     let paused = pause(control);
     let pos = agent.pos;
-    let told = AgentView {
+    let view = AgentView {
         pos,
         last_obs_row: MaybeU64::Some(entry.row),
         delivered_local_rejects: agent.delivered_local_rejects,
         delivered_fills: agent.delivered_fills,
     };
-    Looked {
+    ObsTaken {
         outcome: Outcome::Left,
         control: paused,
         observed: rest,
-        agent: told,
+        agent: view,
         raised: n,
     }
 }
 
 fn due_by(limit: u64, class: Class, time: u64) -> Next
-    ensures { λ r. ⌜ nextTold r ≡ dueBy limit (classTold class) time ⌝ }
+    ensures { λ r. ⌜ ruleNext r ≡ dueBy limit (ruleClass class) time ⌝ }
 {
     if time <= limit {
         return Next::At(class, time);
@@ -151,7 +151,7 @@ fn due_by(limit: u64, class: Class, time: u64) -> Next
 
 // The earlier of two, at equal times the first.
 fn sooner(a: Next, b: Next) -> Next
-    ensures { λ r. ⌜ nextTold r ≡ sooner (nextTold a) (nextTold b) ⌝ }
+    ensures { λ r. ⌜ ruleNext r ≡ sooner (ruleNext a) (ruleNext b) ⌝ }
 {
     let Next::At(_, t) = a else {
         return b;
@@ -166,7 +166,7 @@ fn sooner(a: Next, b: Next) -> Next
 }
 
 fn next_msg(limit: u64, msgs: Msgs) -> Next
-    ensures { λ r. ⌜ ((s : KernelState) → nextTold r ≡ nextMsg limit (withMsgs s msgs)) ⌝ }
+    ensures { λ r. ⌜ ((s : KernelState) → ruleNext r ≡ nextMsg limit (withMsgs s msgs)) ⌝ }
 {
     let first = msgs.get(0);
     let MaybeMsg::Some(m) = first else {
@@ -176,7 +176,7 @@ fn next_msg(limit: u64, msgs: Msgs) -> Next
 }
 
 fn next_delivery(limit: u64, deliveries: Deliveries) -> Next
-    ensures { λ r. ⌜ ((s : KernelState) → nextTold r ≡ nextDelivery limit (withDeliveries s deliveries)) ⌝ }
+    ensures { λ r. ⌜ ((s : KernelState) → ruleNext r ≡ nextDelivery limit (withDeliveries s deliveries)) ⌝ }
 {
     let first = deliveries.get(0);
     let MaybeDelivery::Some(d) = first else {
@@ -186,7 +186,7 @@ fn next_delivery(limit: u64, deliveries: Deliveries) -> Next
 }
 
 fn next_observation(limit: u64, observed: Observed) -> Next
-    ensures { λ r. ⌜ ((s : KernelState) → nextTold r ≡ nextObservation limit (withObserved s observed)) ⌝ }
+    ensures { λ r. ⌜ ((s : KernelState) → ruleNext r ≡ nextObservation limit (withObserved s observed)) ⌝ }
 {
     let first = observed.get(0);
     let MaybeObs::Some(e) = first else {
@@ -197,7 +197,7 @@ fn next_observation(limit: u64, observed: Observed) -> Next
 
 // The least time at or below the limit.
 pub fn next_of(limit: u64, msgs: Msgs, deliveries: Deliveries, observed: Observed) -> Next
-    ensures { λ r. ⌜ ((s : KernelState) → nextTold r ≡ nextOf limit (withQueues s msgs deliveries observed)) ⌝ }
+    ensures { λ r. ⌜ ((s : KernelState) → ruleNext r ≡ nextOf limit (withQueues s msgs deliveries observed)) ⌝ }
 {
     let m = next_msg(limit, msgs);
     let d = next_delivery(limit, deliveries);
@@ -208,7 +208,7 @@ pub fn next_of(limit: u64, msgs: Msgs, deliveries: Deliveries, observed: Observe
 
 // Runs every event with a time at or below `until`. The walk is left from inside as soon as an observation pauses it or truncates.
 pub fn run_events(log: &mut [u64], raised: u64, cfg: Config, until: u64, state: KernelState) -> Step
-    ensures { λ r. ⌜ seen r (now (log .exit)) ≡ played (logAt (now (log .entry)) raised) (runEvents cfg until state) ⌝ }
+    ensures { λ r. ⌜ queue r (now (log .exit)) ≡ expected (logAt (now (log .entry)) raised) (runEvents cfg until state) ⌝ }
 {
     let mut s = state;
     let mut n = raised;
@@ -244,11 +244,11 @@ pub fn run_events(log: &mut [u64], raised: u64, cfg: Config, until: u64, state: 
                 s.deliveries = rest;
                 let agent = s.agent;
                 let account = s.account;
-                let h = hand(log, n, delivery, agent, account);
+                let h = deliver(log, n, delivery, agent, account);
                 let moved = h.agent;
-                let told = h.account;
+                let view = h.account;
                 s.agent = moved;
-                s.account = told;
+                s.account = view;
                 n = h.raised;
                 let o = h.outcome;
                 let Outcome::Ran = o else {
@@ -261,10 +261,10 @@ pub fn run_events(log: &mut [u64], raised: u64, cfg: Config, until: u64, state: 
                 let l = pop_observation(log, n, cfg, now, control, observed, agent);
                 let at = l.control;
                 let rest = l.observed;
-                let told = l.agent;
+                let view = l.agent;
                 s.control = at;
                 s.observed = rest;
-                s.agent = told;
+                s.agent = view;
                 n = l.raised;
                 let o = l.outcome;
                 let Outcome::Ran = o else {

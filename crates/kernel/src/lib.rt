@@ -20,7 +20,7 @@ ghost use Rattle.book.specs.With.{withControl};
 ghost use Rattle.book.specs.declared.state.KernelState.{KernelState};
 ghost use Rattle.rules.specs.Log.{written};
 ghost use Rattle.rules.specs.Calls.{advance, pass, halted, countsFit, isPaused, canResume};
-ghost use Rattle.kernel.specs.Told.{advanceTold, passTold, passedIn};
+ghost use Rattle.kernel.specs.Calls.{advanceTold, passTold, passedIn};
 
 // Whether a call ran, or why it was refused.
 pub enum Answer {
@@ -43,22 +43,22 @@ pub struct Passed {
 fn counts_fit(s: KernelState) -> bool
     ensures { λ r. ⌜ r ≡ countsFit s ⌝ }
 {
-    if s.orders.count > 8 {
+    if s.orders.count > book::orders::CAPACITY {
         return false;
     }
-    if s.msgs.count > 16 {
+    if s.msgs.count > book::msgs::CAPACITY {
         return false;
     }
-    if s.awaiting.count > 8 {
+    if s.awaiting.count > book::orders::CAPACITY {
         return false;
     }
-    if s.deliveries.count > 24 {
+    if s.deliveries.count > book::deliveries::CAPACITY {
         return false;
     }
-    if s.observed.count > 16 {
+    if s.observed.count > book::observed::CAPACITY {
         return false;
     }
-    if s.account.count > 8 {
+    if s.account.count > book::account::CAPACITY {
         return false;
     }
     true

@@ -36,8 +36,8 @@ ghost use Rattle.book.specs.With.{controlPhase, withControl};
 ghost use Rattle.book.specs.declared.state.KernelState.{KernelState};
 ghost use Rattle.book.specs.declared.config.Config.{Config};
 ghost use Rattle.rules.specs.Phases.{rowAt, queueObservation, toRow, nextRow, phaseTurn, phases};
-ghost use Rattle.reports.specs.Log.{logAt, played, seen};
-ghost use Rattle.kernel.specs.Phases.{tickTold, obsIn, withObs, workOn, turnBy, onwardTo};
+ghost use Rattle.reports.specs.Log.{logAt, expected, queue};
+ghost use Rattle.kernel.specs.Phases.{ruleTick, obsStepIn, withObs, workOn, turnBy, onwardTo};
 
 // What queueing an observation changes of the state.
 pub struct ObsStep {
@@ -50,7 +50,7 @@ pub struct ObsStep {
 
 // The row of this number: five words.
 fn row_at(rows: &[u64], index: u64) -> MaybeTick
-    ensures { λ r. ⌜ tickTold r ≡ rowAt (now (rows .entry)) index ⌝ }
+    ensures { λ r. ⌜ ruleTick r ≡ rowAt (now (rows .entry)) index ⌝ }
 {
     let count = rows.len() / 5;
     let i = index as usize;
@@ -93,7 +93,7 @@ fn queue_observation(
     observed: Observed,
     control: Control,
 ) -> ObsStep
-    ensures { λ r. ⌜ ((s : KernelState) (n : ℕ) (w : List ℕ) → seen (obsIn s n r) w ≡ played (logAt w n) (queueObservation cfg index row (withObs s «rng_latency» clock observed control))) ⌝ }
+    ensures { λ r. ⌜ ((s : KernelState) (n : ℕ) (w : List ℕ) → queue (obsStepIn s n r) w ≡ expected (logAt w n) (queueObservation cfg index row (withObs s «rng_latency» clock observed control))) ⌝ }
 {
     let arrival = delayed(cfg, rng_latency, row.ts_ns, cfg.observation_q);
     let time = arrival.time;
@@ -226,7 +226,7 @@ fn next_row(cfg: Config, rows: &[u64], c: Control) -> Onward
 // The phases, until a pause, a halt or the end of the run leaves them.
 // The state stands in one local, and a step that runs on every row takes the parts that it changes. The walk takes the whole state, where a message or a delivery is due.
 pub fn run_phases(log: &mut [u64], cfg: Config, rows: &[u64], state: KernelState) -> Step
-    ensures { λ r. ⌜ seen r (now (log .exit)) ≡ played (logAt (now (log .entry)) 0) (phases cfg (now (rows .entry)) state) ⌝ }
+    ensures { λ r. ⌜ queue r (now (log .exit)) ≡ expected (logAt (now (log .entry)) 0) (phases cfg (now (rows .entry)) state) ⌝ }
 {
     let mut s = state;
     let mut n = 0;
@@ -266,10 +266,10 @@ pub fn run_phases(log: &mut [u64], cfg: Config, rows: &[u64], state: KernelState
                         let l = pop_observation(log, n, cfg, now, control, observed, agent);
                         let at = l.control;
                         let rest = l.observed;
-                        let told = l.agent;
+                        let view = l.agent;
                         s.control = at;
                         s.observed = rest;
-                        s.agent = told;
+                        s.agent = view;
                         n = l.raised;
                         let o = l.outcome;
                         break 'phases o;
@@ -365,9 +365,9 @@ pub fn run_phases(log: &mut [u64], cfg: Config, rows: &[u64], state: KernelState
                             };
                         }
                         let clock = s.clock;
-                        let seen = s.observed;
+                        let queue = s.observed;
                         let c = s.control;
-                        let q = queue_observation(cfg, index, row, s.rng_latency, clock, seen, c);
+                        let q = queue_observation(cfg, index, row, s.rng_latency, clock, queue, c);
                         let clock4 = q.clock;
                         let observed4 = q.observed;
                         let control4 = q.control;

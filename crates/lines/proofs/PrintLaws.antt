@@ -9,7 +9,7 @@ use borrow.Author.Tests.{lt-ltb, le-ltb}
 use Rattle.numbers.specs.Choice.{pick}
 use Rattle.text.specs.Bytes.{bytes}
 use Rattle.text.specs.Write.{Text, texted}
-use Rattle.lines.specs.Print.{all, eventLine, printed, recordsOf, callText, filledQty, filledFrom, filledBy}
+use Rattle.lines.specs.Print.{all, eventLine, printed, recordsOf, callText, filledQty, filledFrom, filledAfter}
 use Rattle.text.proofs.WriteLaws.{texted-append}
 
 pub all-piece : (t : Text) (p : List ℕ) (ps : List (List ℕ)) → texted t (all (p ∷ ps)) ≡ texted (texted t p) (all ps)
@@ -76,6 +76,6 @@ module _ (log : List ℕ) (events n : ℕ) (e : n ≡ recordsOf log events) (t v
   unfolding callText pick texted
   call-whole h = rw (← e, le-ltb n events h, texted-append, ← f)
 
-pub sum-whole : (log : List ℕ) (sum events n s : ℕ) → n ≡ recordsOf log events → s ≡ filledFrom sum n log → s ≡ filledBy sum log events
-unfolding filledBy
+pub sum-whole : (log : List ℕ) (sum events n s : ℕ) → n ≡ recordsOf log events → s ≡ filledFrom sum n log → s ≡ filledAfter sum log events
+unfolding filledAfter
 sum-whole log sum events n s e f = rw (← e) f

@@ -89,8 +89,8 @@ unfoldable pub filledFrom : ℕ → ℕ → List ℕ → ℕ
 filledFrom sum zero log = sum
 filledFrom sum (suc n) log = filledFrom (min (sum + filledQty (take 12 log)) 18446744073709551615) n (drop 12 log)
 
-unfoldable pub filledBy : ℕ → List ℕ → ℕ → ℕ
-filledBy sum log events = filledFrom sum (recordsOf log events) log
+unfoldable pub filledAfter : ℕ → List ℕ → ℕ → ℕ
+filledAfter sum log events = filledFrom sum (recordsOf log events) log
 
 -- "Last: venue position, live buy and sell, and the summed qty of printed fill reports"
 unfoldable pub lastLine : ℤ → ℕ → ℕ → ℕ → List ℕ

@@ -8,7 +8,7 @@ ghost use mathlib.Core.Path.{_≡_};
 ghost use Prim.Native.Nat.{_+_, _/_, min};
 ghost use lib.ListN.{length, getD};
 ghost use Rattle.text.specs.Write.{textAt, texted};
-ghost use Rattle.lines.specs.Print.{kindName, reportLine, fillLine, shortLine, oneLine, eventLine, callText, lastLine, badLine, filledQty, filledBy};
+ghost use Rattle.lines.specs.Print.{kindName, reportLine, fillLine, shortLine, oneLine, eventLine, callText, lastLine, badLine, filledQty, filledAfter};
 
 // A word of a record, 0 past its end.
 fn word(w: &[u64], i: usize) -> u64
@@ -144,7 +144,7 @@ fn filled_qty(w: &[u64]) -> u64
 
 // The sum of the quantities of the printed reports of kind fill, with those of a call. It stays at the largest number, which a run does not reach: all quantities together are within 64 bits.
 pub fn add_filled(sum: u64, log: &[u64], events: u64) -> u64
-    ensures { λ r. ⌜ r ≡ filledBy sum (now (log .entry)) events ⌝ }
+    ensures { λ r. ⌜ r ≡ filledAfter sum (now (log .entry)) events ⌝ }
 {
     let n = records(log, events);
     let mut s = sum;

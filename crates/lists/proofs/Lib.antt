@@ -1,5 +1,5 @@
 pub mod Loops
-pub mod Ways
+pub mod Exits
 pub mod Cases
 pub mod Sums
 pub mod Totals

@@ -22,7 +22,7 @@ use Rattle.book.specs.declared.orders.Orders.{Orders}
 use Rattle.book.specs.declared.state.KernelState.{KernelState}
 use Rattle.rules.specs.Run.{ranTo, andThen}
 use Rattle.rules.specs.Matching.{matches, Fills, fillsOf, fillsAt, filling, matchAt, matchFrom, terminalAt, sweepFrom, sweep}
-use Rattle.matching.specs.Matching.{stirs, busy}
+use Rattle.matching.specs.Matching.{concerns, busy}
 
 -- ---- a search that finds none: no entry fits
 module _ {A : Type 0} (p : A → Bool) (d : A) (z : p d ≡ false) where
@@ -39,40 +39,40 @@ module _ {A : Type 0} (p : A → Bool) (d : A) (z : p d ≡ false) where
       (λ _ e. let y : _≡_ {A = ℕ} 0 1 = cc in absurd (omega arith))
       (λ e _ i. none-fits l (ltb-false _ _ e) i)
 
--- ---- no live order stirs
+-- ---- the row concerns no live order
 module _ (row : KernelTick) (os : Orders) (h : busy row os ≡ false) where
-  found-none : foundIn (stirs row) (live 8 (ordersRow os)) ≡ none
+  found-none : foundIn (concerns row) (live 8 (ordersRow os)) ≡ none
   unfolding busy
-  found-none = some-case (λ (b : Bool). b ≡ false → foundIn (stirs row) (live 8 (ordersRow os)) ≡ none) (foundIn (stirs row) (live 8 (ordersRow os))) (λ _. true) false
+  found-none = some-case (λ (b : Bool). b ≡ false → foundIn (concerns row) (live 8 (ordersRow os)) ≡ none) (foundIn (concerns row) (live 8 (ordersRow os))) (λ _. true) false
       (λ _ _ e. let y : _≡_ {A = ℕ} 0 1 = cc in absurd (omega arith)) (λ e _. e) h
 
-  blank-still : stirs row blankOrder ≡ false
-  unfolding stirs matches pick
+  blank-still : concerns row blankOrder ≡ false
+  unfolding concerns matches pick
   blank-still = refl
 
   live-is : leb (os .count) 8 ≡ true → live 8 (ordersRow os) ≡ take (os .count) (os .slots)
   unfolding live pick
   live-is a = rw a
 
-  still-at : (i : ℕ) → onSome (entryAt 8 blankOrder i (ordersRow os)) (stirs row) false ≡ false
+  still-at : (i : ℕ) → onSome (entryAt 8 blankOrder i (ordersRow os)) (concerns row) false ≡ false
   unfolding entryAt onSome
   still-at i =
-      let P : Option VenueOrder → Type 0 = λ x. onSome x (stirs row) false ≡ false in
+      let P : Option VenueOrder → Type 0 = λ x. onSome x (concerns row) false ≡ false in
       pick-case P (leb (os .count) 8) _ _ (λ a. pick-case P (ltb i (os .count)) _ _
-      (λ b. ap (stirs row) (sym (getD-take (os .count) (os .slots) i blankOrder (ltb-true _ _ b)) ∙ ap (λ (l : List VenueOrder). getD l i blankOrder) (sym (live-is a))) ∙ none-found (stirs row) blankOrder blank-still _ found-none i)
+      (λ b. ap (concerns row) (sym (getD-take (os .count) (os .slots) i blankOrder (ltb-true _ _ b)) ∙ ap (λ (l : List VenueOrder). getD l i blankOrder) (sym (live-is a))) ∙ none-found (concerns row) blankOrder blank-still _ found-none i)
       (λ _. refl)) (λ _. refl)
 
-  still : (i : ℕ) (o : VenueOrder) → entryAt 8 blankOrder i (ordersRow os) ≡ some o → stirs row o ≡ false
+  still : (i : ℕ) (o : VenueOrder) → entryAt 8 blankOrder i (ordersRow os) ≡ some o → concerns row o ≡ false
   unfolding onSome
-  still i o e = sym (ap (λ (x : Option VenueOrder). onSome x (stirs row) false) e) ∙ still-at i
+  still i o e = sym (ap (λ (x : Option VenueOrder). onSome x (concerns row) false) e) ∙ still-at i
 
-module _ (row : KernelTick) (o : VenueOrder) (h : stirs row o ≡ false) where
+module _ (row : KernelTick) (o : VenueOrder) (h : concerns row o ≡ false) where
   unmatched : matches row o ≡ false
-  unfolding stirs
+  unfolding concerns
   unmatched = pick-case (λ (b : Bool). b ≡ false → matches row o ≡ false) (isTerminal (o .state)) true (matches row o) (λ _ e. let y : _≡_ {A = ℕ} 0 1 = cc in absurd (omega arith)) (λ _ e. e) h
 
   unswept : isTerminal (o .state) ≡ false
-  unfolding stirs
+  unfolding concerns
   unswept = pick-case (λ (b : Bool). b ≡ false → isTerminal (o .state) ≡ false) (isTerminal (o .state)) true (matches row o) (λ _ e. let y : _≡_ {A = ℕ} 0 1 = cc in absurd (omega arith)) (λ e _. e) h
 
 -- ---- the pass and the sweep

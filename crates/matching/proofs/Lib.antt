@@ -1,2 +1,2 @@
-pub mod MatchingWays
+pub mod MatchingExits
 pub mod Idle

@@ -3,6 +3,7 @@ use Prim.Native.Nat.{ℕ}
 use mathlib.Core.Bool.{Bool, true, false}
 use Rattle.numbers.specs.Choice.{pick}
 use Rattle.lists.specs.Lists.{onSome, foundIn, live}
+use Rattle.book.specs.Capacities.{ordersCapacity}
 use Rattle.book.specs.Entries.{isTerminal}
 use Rattle.book.specs.Rows.{ordersRow}
 use Rattle.book.specs.With.{withClock, withRngLatency, withSeqs, withOrders, withMsgs, withAwaiting, withGate, withDeliveries, withCounters}
@@ -36,18 +37,18 @@ abbrev pub matchedIn : KernelState → Matched → Step
 matchedIn s m = record { outcome = m .outcome; state = withMatched s (m .venue) (m .orders) (m .deliveries); raised = m .raised }
 
 -- what a row fills at a place
-abbrev pub lotsTold : Lots → Fills
-lotsTold lots.Nothing = no-fill
-lotsTold (lots.Take o n) = fills o n
-lotsTold lots.Fail = fails
+abbrev pub ruleFills : Lots → Fills
+ruleFills lots.Nothing = no-fill
+ruleFills (lots.Take o n) = fills o n
+ruleFills lots.Fail = fails
 
 -- whether a row has anything to do with an order
-unfoldable pub stirs : KernelTick → VenueOrder → Bool
-stirs row o = pick (isTerminal (o .state)) true (matches row o)
+unfoldable pub concerns : KernelTick → VenueOrder → Bool
+concerns row o = pick (isTerminal (o .state)) true (matches row o)
 
 -- whether a live order matches the row or is terminal
 unfoldable pub busy : KernelTick → Orders → Bool
-busy row os = onSome (foundIn (stirs row) (live 8 (ordersRow os))) (λ i. true) false
+busy row os = onSome (foundIn (concerns row) (live ordersCapacity (ordersRow os))) (λ i. true) false
 
 -- ---- the sweep
 abbrev pub withSwept : KernelState → Orders → Msgs → Orders → KernelState

@@ -37,9 +37,9 @@ ghost use Rattle.book.specs.Entries.{remaining};
 ghost use Rattle.book.specs.declared.state.KernelState.{KernelState};
 ghost use Rattle.book.specs.With.{withOrders};
 ghost use Rattle.rules.specs.Run.{haltAt};
-ghost use Rattle.rules.specs.Matching.{filledBy, recordAt, fillKind, fillEvent, fillsAt, matchFrom, leave, terminalAt, sweepFrom, marked};
-ghost use Rattle.reports.specs.Log.{logAt, played, seen};
-ghost use Rattle.matching.specs.Matching.{withVenue, filledIn, lotsTold, withMatched, matchedIn, stirs, busy, sweptIn, withSwept};
+ghost use Rattle.rules.specs.Matching.{filledBy, recordAt, fillKind, fillEvent, fillsAt, matchFrom, leave, terminalAt, sweepFrom, gateMarked};
+ghost use Rattle.reports.specs.Log.{logAt, expected, actual};
+ghost use Rattle.matching.specs.Matching.{withVenue, filledIn, ruleFills, withMatched, matchedIn, concerns, busy, sweptIn, withSwept};
 
 // What a fill changes of the state beside the two lists.
 pub struct Venue {
@@ -124,7 +124,7 @@ fn fill_record(now_ns: u64, exec_id: u64, order: VenueOrder, lots: u64) -> FillR
 
 // A fill that halts, with what it has changed so far.
 fn stopped(reason: HaltReason, venue: Venue, raised: u64) -> Filled
-    ensures { λ r. ⌜ ((s : KernelState) (w : List ℕ) → seen (filledIn s r) w ≡ played (logAt w raised) (haltAt reason (withVenue s venue))) ⌝ }
+    ensures { λ r. ⌜ ((s : KernelState) (w : List ℕ) → actual (filledIn s r) w ≡ expected (logAt w raised) (haltAt reason (withVenue s venue))) ⌝ }
 {
     Filled {
         outcome: Outcome::Halt(reason),
@@ -135,7 +135,7 @@ fn stopped(reason: HaltReason, venue: Venue, raised: u64) -> Filled
 
 // A fill: the stamp, then the gate and the exec id, written only when both and the doubled price have passed; the counter and the event.
 fn fill_at(log: &mut [u64], raised: u64, order: VenueOrder, lots: u64, v: Venue) -> Filled
-    ensures { λ r. ⌜ ((s : KernelState) → seen (filledIn s r) (now (log .exit)) ≡ played (logAt (now (log .entry)) raised) (fillEvent order lots (withVenue s v))) ⌝ }
+    ensures { λ r. ⌜ ((s : KernelState) → actual (filledIn s r) (now (log .exit)) ≡ expected (logAt (now (log .entry)) raised) (fillEvent order lots (withVenue s v))) ⌝ }
 {
     let before = v.seqs;
     let next = checked_add(before.stamp_seq, 1);
@@ -147,7 +147,7 @@ fn fill_at(log: &mut [u64], raised: u64, order: VenueOrder, lots: u64, v: Venue)
     let side = order.side;
     let g = v.gate;
     let gated = gate::fill(g, side, lots);
-    let Gated::Kept(kept) = gated else {
+    let Gated::Done(kept) = gated else {
         return stopped(HaltReason::CounterOverflow, u, raised);
     };
     let doubled = checked_mul(order.price, 2);
@@ -176,7 +176,7 @@ fn fill_at(log: &mut [u64], raised: u64, order: VenueOrder, lots: u64, v: Venue)
 
 // What the row fills of the order at a place.
 fn lots_at(mode: FillMode, row: KernelTick, orders: Orders, index: usize) -> Lots
-    ensures { λ r. ⌜ lotsTold r ≡ fillsAt mode row index orders ⌝ }
+    ensures { λ r. ⌜ ruleFills r ≡ fillsAt mode row index orders ⌝ }
 {
     let got = orders.get(index);
     let MaybeOrder::Some(order) = got else {
@@ -205,7 +205,7 @@ pub fn match_orders(
     orders: Orders,
     deliveries: Deliveries,
 ) -> Matched
-    ensures { λ r. ⌜ ((s : KernelState) → seen (matchedIn s r) (now (log .exit)) ≡ played (logAt (now (log .entry)) raised) (matchFrom cfg row (orders .count) 0 (withMatched s venue orders deliveries))) ⌝ }
+    ensures { λ r. ⌜ ((s : KernelState) → actual (matchedIn s r) (now (log .exit)) ≡ expected (logAt (now (log .entry)) raised) (matchFrom cfg row (orders .count) 0 (withMatched s venue orders deliveries))) ⌝ }
 {
     let count = orders.count;
     let mode = cfg.fill;
@@ -259,7 +259,7 @@ pub fn match_orders(
                     break p;
                 };
                 let at = ds.count;
-                if at >= 24 {
+                if at >= book::deliveries::CAPACITY {
                     break Outcome::Halt(HaltReason::CounterOverflow);
                 }
                 let fill = fill_record(now_ns, before.next_exec_id, order, k);
@@ -295,7 +295,7 @@ fn terminal_at(orders: Orders, index: usize) -> bool
 
 // The order at a place leaves, with its expiry, to awaiting if a cancel is in flight.
 fn leave(index: usize, orders: Orders, msgs: Msgs, awaiting: Orders) -> Swept
-    ensures { λ r. ⌜ ((s : KernelState) (n : ℕ) (w : List ℕ) → seen (sweptIn s n r) w ≡ played (logAt w n) (leave index (withSwept s orders msgs awaiting))) ⌝ }
+    ensures { λ r. ⌜ ((s : KernelState) (n : ℕ) (w : List ℕ) → actual (sweptIn s n r) w ≡ expected (logAt w n) (leave index (withSwept s orders msgs awaiting))) ⌝ }
 {
     let taken = orders.remove(index);
     let got = taken.got;
@@ -337,7 +337,7 @@ fn leave(index: usize, orders: Orders, msgs: Msgs, awaiting: Orders) -> Swept
 
 // The terminal orders leave. A pass has as many looks as there are orders; where one left, the next stands at its place.
 pub fn sweep(orders: Orders, msgs: Msgs, awaiting: Orders) -> Swept
-    ensures { λ r. ⌜ ((s : KernelState) (n : ℕ) (w : List ℕ) → seen (sweptIn s n r) w ≡ played (logAt w n) (sweepFrom (orders .count) 0 (withSwept s orders msgs awaiting))) ⌝ }
+    ensures { λ r. ⌜ ((s : KernelState) (n : ℕ) (w : List ℕ) → actual (sweptIn s n r) w ≡ expected (logAt w n) (sweepFrom (orders .count) 0 (withSwept s orders msgs awaiting))) ⌝ }
 {
     let looks = orders.count;
     let mut o = orders;
@@ -370,8 +370,8 @@ pub fn sweep(orders: Orders, msgs: Msgs, awaiting: Orders) -> Swept
 }
 
 // Whether a row has anything to do with an order: it is terminal, or it matches.
-fn stirs(row: KernelTick, order: VenueOrder) -> bool
-    ensures { λ r. ⌜ r ≡ stirs row order ⌝ }
+fn concerns(row: KernelTick, order: VenueOrder) -> bool
+    ensures { λ r. ⌜ r ≡ concerns row order ⌝ }
 {
     let state = order.state;
     if state.is_terminal() {
@@ -386,12 +386,12 @@ pub fn busy(row: KernelTick, orders: Orders) -> bool
 {
     let list = orders;
     let count = list.count;
-    if count > 8 {
+    if count > book::orders::CAPACITY {
         return false;
     }
     for i in 0..count {
         let order = list.slots[i];
-        if stirs(row, order) {
+        if concerns(row, order) {
             return true;
         }
     }
@@ -399,7 +399,7 @@ pub fn busy(row: KernelTick, orders: Orders) -> bool
 }
 
 pub fn mark(gate: GateState, mid2: u64) -> GateState
-    ensures { λ r. ⌜ r ≡ marked mid2 gate ⌝ }
+    ensures { λ r. ⌜ r ≡ gateMarked mid2 gate ⌝ }
 {
     if mid2 == 0 {
         return gate;

@@ -1,3 +1,3 @@
-pub mod MessagesWays
-pub mod ActivationWays
-pub mod CancelWays
+pub mod MessagesExits
+pub mod ActivationExits
+pub mod CancelExits

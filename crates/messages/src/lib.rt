@@ -27,17 +27,17 @@ ghost use Prim.Native.Nat.{ℕ};
 ghost use Rattle.rules.specs.Messages.{release, awaitMarked, book, schedule, removeExpiry, scheduleExpiry, accept, reject, activate, activation, cancelBooked, cancelPending, cancelAwaiting, cancel, expireBooked, expire, applyNextMsg};
 ghost use Rattle.book.specs.declared.state.KernelState.{KernelState};
 ghost use Rattle.book.specs.With.{withMsgs};
-ghost use Rattle.reports.specs.Log.{logAt, played, seen, stampedAt};
+ghost use Rattle.reports.specs.Log.{logAt, expected, actual, stampedAt};
 
 // The order's remaining lots are live no more.
 fn release_order(raised: u64, order: VenueOrder, s: KernelState) -> Step
-    ensures { λ r. ⌜ ((w : List ℕ) → seen r w ≡ played (logAt w raised) (release order s)) ⌝ }
+    ensures { λ r. ⌜ ((w : List ℕ) → actual r w ≡ expected (logAt w raised) (release order s)) ⌝ }
 {
     let side = order.side;
     let lots = order.remaining();
     let g = s.gate;
     let gated = gate::release(g, side, lots);
-    let Gated::Kept(kept) = gated else {
+    let Gated::Done(kept) = gated else {
         return Step {
             outcome: Outcome::Halt(HaltReason::CounterOverflow),
             state: s,
@@ -55,7 +55,7 @@ fn release_order(raised: u64, order: VenueOrder, s: KernelState) -> Step
 
 // The order awaits a cancel's outcome, if one is in flight.
 fn await_marked(raised: u64, order: VenueOrder, s: KernelState) -> Step
-    ensures { λ r. ⌜ ((w : List ℕ) → seen r w ≡ played (logAt w raised) (awaitMarked order s)) ⌝ }
+    ensures { λ r. ⌜ ((w : List ℕ) → actual r w ≡ expected (logAt w raised) (awaitMarked order s)) ⌝ }
 {
     if !order.cancel_inflight {
         return Step {
@@ -84,7 +84,7 @@ fn await_marked(raised: u64, order: VenueOrder, s: KernelState) -> Step
 }
 
 fn book_order(raised: u64, order: VenueOrder, s: KernelState) -> Step
-    ensures { λ r. ⌜ ((w : List ℕ) → seen r w ≡ played (logAt w raised) (book order s)) ⌝ }
+    ensures { λ r. ⌜ ((w : List ℕ) → actual r w ≡ expected (logAt w raised) (book order s)) ⌝ }
 {
     let orders = s.orders;
     let put = orders.push(order);
@@ -107,7 +107,7 @@ fn book_order(raised: u64, order: VenueOrder, s: KernelState) -> Step
 
 // A new message takes the next number, and its place among the others.
 fn schedule(raised: u64, eff_ns: u64, kind: MsgKind, s: KernelState) -> Step
-    ensures { λ r. ⌜ ((w : List ℕ) → seen r w ≡ played (logAt w raised) (schedule «eff_ns» kind s)) ⌝ }
+    ensures { λ r. ⌜ ((w : List ℕ) → actual r w ≡ expected (logAt w raised) (schedule «eff_ns» kind s)) ⌝ }
 {
     let seq = s.seqs.next_msg_seq;
     let next = checked_add(seq, 1);
@@ -152,7 +152,7 @@ pub fn remove_expiry(id: u64, msgs: Msgs) -> Msgs
 }
 
 fn schedule_expiry(raised: u64, expiry: MaybeU64, id: u64, s: KernelState) -> Step
-    ensures { λ r. ⌜ ((w : List ℕ) → seen r w ≡ played (logAt w raised) (scheduleExpiry expiry id s)) ⌝ }
+    ensures { λ r. ⌜ ((w : List ℕ) → actual r w ≡ expected (logAt w raised) (scheduleExpiry expiry id s)) ⌝ }
 {
     let MaybeU64::Some(at) = expiry else {
         return Step {
@@ -174,7 +174,7 @@ fn accept(
     seq: u64,
     s: KernelState,
 ) -> Step
-    ensures { λ r. ⌜ seen r (now (log .exit)) ≡ played (logAt (now (log .entry)) raised) (accept cfg order expiry (stampedAt seq s) s) ⌝ }
+    ensures { λ r. ⌜ actual r (now (log .exit)) ≡ expected (logAt (now (log .entry)) raised) (accept cfg order expiry (stampedAt seq s) s) ⌝ }
 {
     let report = status_report(s.clock.now_ns, seq, order, ExecKind::Accepted, false, 0);
     let a = send(log, raised, cfg, report, s);
@@ -199,7 +199,7 @@ fn reject(
     seq: u64,
     s: KernelState,
 ) -> Step
-    ensures { λ r. ⌜ seen r (now (log .exit)) ≡ played (logAt (now (log .entry)) raised) (reject cfg order (stampedAt seq s) s) ⌝ }
+    ensures { λ r. ⌜ actual r (now (log .exit)) ≡ expected (logAt (now (log .entry)) raised) (reject cfg order (stampedAt seq s) s) ⌝ }
 {
     let a = release_order(raised, order, s);
     let o = a.outcome;
@@ -231,7 +231,7 @@ fn activate(
     expiry: MaybeU64,
     s: KernelState,
 ) -> Step
-    ensures { λ r. ⌜ seen r (now (log .exit)) ≡ played (logAt (now (log .entry)) raised) (activate cfg order expiry s) ⌝ }
+    ensures { λ r. ⌜ actual r (now (log .exit)) ≡ expected (logAt (now (log .entry)) raised) (activate cfg order expiry s) ⌝ }
 {
     let seq = s.seqs.stamp_seq;
     let next = checked_add(seq, 1);
@@ -285,7 +285,7 @@ fn activation(
     s: KernelState,
     t: KernelState,
 ) -> Step
-    ensures { λ r. ⌜ seen r (now (log .exit)) ≡ played (logAt (now (log .entry)) raised) (activation cfg order life s t) ⌝ }
+    ensures { λ r. ⌜ actual r (now (log .exit)) ≡ expected (logAt (now (log .entry)) raised) (activation cfg order life s t) ⌝ }
 {
     if order.price == 0 {
         return activate(log, raised, cfg, order, MaybeU64::None, t);
@@ -323,7 +323,7 @@ fn cancel_booked(
     index: usize,
     s: KernelState,
 ) -> Step
-    ensures { λ r. ⌜ seen r (now (log .exit)) ≡ played (logAt (now (log .entry)) raised) (cancelBooked cfg (stampedAt seq s) index s) ⌝ }
+    ensures { λ r. ⌜ actual r (now (log .exit)) ≡ expected (logAt (now (log .entry)) raised) (cancelBooked cfg (stampedAt seq s) index s) ⌝ }
 {
     let orders = s.orders;
     let taken = orders.remove(index);
@@ -359,7 +359,7 @@ fn cancel_pending(
     index: usize,
     s: KernelState,
 ) -> Step
-    ensures { λ r. ⌜ seen r (now (log .exit)) ≡ played (logAt (now (log .entry)) raised) (cancelPending cfg (stampedAt seq s) index s) ⌝ }
+    ensures { λ r. ⌜ actual r (now (log .exit)) ≡ expected (logAt (now (log .entry)) raised) (cancelPending cfg (stampedAt seq s) index s) ⌝ }
 {
     let msgs = s.msgs;
     let taken = msgs.remove(index);
@@ -399,7 +399,7 @@ fn cancel_awaiting(
     index: usize,
     s: KernelState,
 ) -> Step
-    ensures { λ r. ⌜ seen r (now (log .exit)) ≡ played (logAt (now (log .entry)) raised) (cancelAwaiting cfg (stampedAt seq s) index s) ⌝ }
+    ensures { λ r. ⌜ actual r (now (log .exit)) ≡ expected (logAt (now (log .entry)) raised) (cancelAwaiting cfg (stampedAt seq s) index s) ⌝ }
 {
     let awaiting = s.awaiting;
     let taken = awaiting.remove(index);
@@ -426,7 +426,7 @@ fn cancel_awaiting(
 }
 
 fn apply_cancel(log: &mut [u64], raised: u64, cfg: Config, id: u64, s: KernelState) -> Step
-    ensures { λ r. ⌜ seen r (now (log .exit)) ≡ played (logAt (now (log .entry)) raised) (cancel cfg id s) ⌝ }
+    ensures { λ r. ⌜ actual r (now (log .exit)) ≡ expected (logAt (now (log .entry)) raised) (cancel cfg id s) ⌝ }
 {
     let seq = s.seqs.stamp_seq;
     let next = checked_add(seq, 1);
@@ -469,7 +469,7 @@ fn expire_booked(
     index: usize,
     s: KernelState,
 ) -> Step
-    ensures { λ r. ⌜ seen r (now (log .exit)) ≡ played (logAt (now (log .entry)) raised) (expireBooked cfg (stampedAt seq s) index s) ⌝ }
+    ensures { λ r. ⌜ actual r (now (log .exit)) ≡ expected (logAt (now (log .entry)) raised) (expireBooked cfg (stampedAt seq s) index s) ⌝ }
 {
     let orders = s.orders;
     let taken = orders.remove(index);
@@ -515,7 +515,7 @@ fn expire_booked(
 }
 
 fn apply_expire(log: &mut [u64], raised: u64, cfg: Config, id: u64, s: KernelState) -> Step
-    ensures { λ r. ⌜ seen r (now (log .exit)) ≡ played (logAt (now (log .entry)) raised) (expire cfg id s) ⌝ }
+    ensures { λ r. ⌜ actual r (now (log .exit)) ≡ expected (logAt (now (log .entry)) raised) (expire cfg id s) ⌝ }
 {
     let orders = s.orders;
     let booked = orders.booked(id);
@@ -542,7 +542,7 @@ fn apply_expire(log: &mut [u64], raised: u64, cfg: Config, id: u64, s: KernelSta
 
 // The first message leaves, then acts.
 pub fn apply_next_msg(log: &mut [u64], raised: u64, cfg: Config, s: KernelState) -> Step
-    ensures { λ r. ⌜ seen r (now (log .exit)) ≡ played (logAt (now (log .entry)) raised) (applyNextMsg cfg s) ⌝ }
+    ensures { λ r. ⌜ actual r (now (log .exit)) ≡ expected (logAt (now (log .entry)) raised) (applyNextMsg cfg s) ⌝ }
 {
     let msgs = s.msgs;
     let taken = msgs.pop_front();

@@ -8,7 +8,7 @@ use book::account::OpenOrder;
 ghost use mathlib.Core.Path.{_≡_};
 ghost use Rattle.numbers.specs.Choice.{pick};
 ghost use Rattle.rules.specs.Delivery.{awaits, closes, effect, onDelivery};
-ghost use Rattle.models.specs.Told.{effectTold};
+ghost use Rattle.models.specs.Rules.{ruleEffect};
 
 // What a report does to its order's entry.
 pub enum Effect {
@@ -18,7 +18,7 @@ pub enum Effect {
 }
 
 fn unless_pending(pending: bool) -> Effect
-    ensures { λ r. ⌜ effectTold r ≡ pick pending awaits closes ⌝ }
+    ensures { λ r. ⌜ ruleEffect r ≡ pick pending awaits closes ⌝ }
 {
     if pending {
         return Effect::Awaits;
@@ -27,7 +27,7 @@ fn unless_pending(pending: bool) -> Effect
 }
 
 fn effect_of(kind: ExecKind, origin: Origin, pending: bool) -> Effect
-    ensures { λ r. ⌜ effectTold r ≡ effect kind origin pending ⌝ }
+    ensures { λ r. ⌜ ruleEffect r ≡ effect kind origin pending ⌝ }
 {
     match kind {
         ExecKind::Accepted => Effect::Stands,

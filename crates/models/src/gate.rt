@@ -6,12 +6,12 @@ use numbers::position::Position;
 ghost use mathlib.Core.Path.{_≡_};
 ghost use Rattle.rules.specs.Messages.{released};
 ghost use Rattle.rules.specs.Matching.{moved, gateFilled};
-ghost use Rattle.models.specs.Told.{gateTold};
+ghost use Rattle.models.specs.Rules.{ruleGate};
 
 // The gate after a release or a fill, or that it does not pass.
 pub enum Gated {
     Fail,
-    Kept(GateState),
+    Done(GateState),
 }
 
 // A position after a fill: up for a buy, down for a sell.
@@ -26,7 +26,7 @@ pub fn move_by(position: Position, side: Side, lots: u64) -> Moved
 
 // Lots of a side are live no more.
 pub fn release(gate: GateState, side: Side, lots: u64) -> Gated
-    ensures { λ r. ⌜ gateTold r ≡ released side lots gate ⌝ }
+    ensures { λ r. ⌜ ruleGate r ≡ released side lots gate ⌝ }
 {
     match side {
         Side::Buy => {
@@ -35,7 +35,7 @@ pub fn release(gate: GateState, side: Side, lots: u64) -> Gated
             }
             let mut next = gate;
             next.live_buy_lots = gate.live_buy_lots - lots;
-            Gated::Kept(next)
+            Gated::Done(next)
         }
         Side::Sell => {
             if gate.live_sell_lots < lots {
@@ -43,14 +43,14 @@ pub fn release(gate: GateState, side: Side, lots: u64) -> Gated
             }
             let mut next = gate;
             next.live_sell_lots = gate.live_sell_lots - lots;
-            Gated::Kept(next)
+            Gated::Done(next)
         }
     }
 }
 
 // Lots of a side are filled.
 pub fn fill(gate: GateState, side: Side, lots: u64) -> Gated
-    ensures { λ r. ⌜ gateTold r ≡ gateFilled side lots gate ⌝ }
+    ensures { λ r. ⌜ ruleGate r ≡ gateFilled side lots gate ⌝ }
 {
     let position = gate.venue_pos;
     let to = move_by(position, side, lots);

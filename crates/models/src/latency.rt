@@ -6,7 +6,7 @@ use numbers::words::checked_add;
 use numbers::words::checked_mul;
 ghost use mathlib.Core.Path.{_≡_};
 ghost use Rattle.rules.specs.Report.{delay, delayedTime};
-ghost use Rattle.models.specs.Told.{delayTold};
+ghost use Rattle.models.specs.Rules.{ruleDelay};
 
 // The generator after the jitter was drawn, with the time, or none where the sum, the product or the time passes 64 bits.
 pub struct Arrival {
@@ -30,12 +30,12 @@ fn delayed_time(at: u64, base_q: u64, jitter: u64, quantum_ns: u64) -> MaybeU64
 }
 
 pub fn delayed(cfg: Config, rng: u64, at: u64, base_q: u64) -> Arrival
-    ensures { λ r. ⌜ delayTold r ≡ delay cfg rng at «base_q» ⌝ }
+    ensures { λ r. ⌜ ruleDelay r ≡ delay cfg rng at «base_q» ⌝ }
 {
     let rng = KernelRng { state: rng };
-    let drawn = rng.draw(cfg.jitter_q);
-    let moved = drawn.rng;
-    let time = delayed_time(at, base_q, drawn.value, cfg.quantum_ns);
+    let ruleDraw = rng.draw(cfg.jitter_q);
+    let moved = ruleDraw.rng;
+    let time = delayed_time(at, base_q, ruleDraw.value, cfg.quantum_ns);
     Arrival {
         rng: moved.state,
         time,

@@ -2,7 +2,7 @@
 use numbers::words::wrapping_mul;
 ghost use mathlib.Core.Path.{_≡_};
 ghost use Rattle.rules.specs.Generator.{draw};
-ghost use Rattle.models.specs.Told.{drawn};
+ghost use Rattle.models.specs.Rules.{ruleDraw};
 
 pub struct KernelRng {
     pub state: u64,
@@ -17,7 +17,7 @@ pub struct Drawn {
 impl KernelRng {
     // A number in 0..=max; max 0 draws 0 and leaves the state.
     pub fn draw(self, max: u64) -> Drawn
-        ensures { λ r. ⌜ drawn r ≡ draw (self .state) max ⌝ }
+        ensures { λ r. ⌜ ruleDraw r ≡ draw (self .state) max ⌝ }
     {
         if max == 0 {
             return Drawn {

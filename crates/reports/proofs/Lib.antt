@@ -1,3 +1,3 @@
-pub mod Notes
+pub mod Append
 pub mod Then
-pub mod ReportWays
+pub mod ReportExits

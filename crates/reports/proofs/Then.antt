@@ -23,106 +23,106 @@ use Rattle.book.specs.declared.state.KernelEvent.{KernelEvent}
 use Rattle.book.specs.declared.state.KernelState.{KernelState}
 use Rattle.rules.specs.Run as rules
 use Rattle.rules.specs.Report.{stamp, queueDelivery}
-use Rattle.reports.specs.Log.{Log, logAt, note, noted, told, Seen, played, seen}
+use Rattle.reports.specs.Log.{Log, logAt, appendEvent, appendEvents, outcomeOf, StepResult, expected, actual}
 use Rattle.reports.specs.declared.Outcome.{Outcome}
 use Rattle.reports.specs.declared.Outcome.the-variants.{Ran, Halt}
 use Rattle.reports.specs.declared.Step.{Step}
-use Rattle.reports.proofs.Notes.{noted-append}
+use Rattle.reports.proofs.Append.{appended-append}
 
 -- ---- a step that is known
-pub played-ran : (l : Log) (s : KernelState) → record { outcome = Ran; state = s; log = l } ≡ played l (rules.ranTo s)
-unfolding played noted
-played-ran l s = refl
+pub expected-ran : (l : Log) (s : KernelState) → record { outcome = Ran; state = s; log = l } ≡ expected l (rules.ranTo s)
+unfolding expected appendEvents
+expected-ran l s = refl
 
-pub played-halt : (l : Log) (h : HaltReason) (s : KernelState) → record { outcome = Halt h; state = s; log = l } ≡ played l (rules.haltAt h s)
-unfolding played noted
-played-halt l h s = refl
+pub expected-halt : (l : Log) (h : HaltReason) (s : KernelState) → record { outcome = Halt h; state = s; log = l } ≡ expected l (rules.haltAt h s)
+unfolding expected appendEvents
+expected-halt l h s = refl
 
 -- an event, then k
-pub raised-then : (l : Log) (e : KernelEvent) (s : KernelState) (k : KernelState → rules.Run) → played l (rules.andThen (rules.raised e s) k) ≡ played (note l e) (k s)
-unfolding played noted rules.andThen
+pub raised-then : (l : Log) (e : KernelEvent) (s : KernelState) (k : KernelState → rules.Run) → expected l (rules.andThen (rules.raised e s) k) ≡ expected (appendEvent l e) (k s)
+unfolding expected appendEvents rules.andThen
 raised-then l e s k = refl
 
 -- ---- a step that a callee made: r is what the rules give for it, a and w what the code left
-only-ran : (o : rules.Outcome) → told o ≡ Ran → o ≡ rules.ran
+only-ran : (o : rules.Outcome) → outcomeOf o ≡ Ran → o ≡ rules.ran
 only-ran rules.ran e = refl
 only-ran rules.left e = let z : _≡_ {A = ℕ} 0 1 = cc in absurd (omega arith)
 only-ran (rules.halt h) e = let z : _≡_ {A = ℕ} 0 1 = cc in absurd (omega arith)
 only-ran (rules.ended ms) e = let z : _≡_ {A = ℕ} 0 1 = cc in absurd (omega arith)
 
-after-ran : (l : Log) (r : rules.Run) (k : KernelState → rules.Run) → r .outcome ≡ rules.ran → played l (rules.andThen r k) ≡ played (noted l (r .events)) (k (r .state))
-unfolding played rules.andThen
-after-ran l r k e = rw e (ap (λ (g : Log). record { outcome = told (k (r .state) .outcome); state = k (r .state) .state; log = g }) (sym (noted-append l (r .events) (k (r .state) .events))))
+after-ran : (l : Log) (r : rules.Run) (k : KernelState → rules.Run) → r .outcome ≡ rules.ran → expected l (rules.andThen r k) ≡ expected (appendEvents l (r .events)) (k (r .state))
+unfolding expected rules.andThen
+after-ran l r k e = rw e (ap (λ (g : Log). record { outcome = outcomeOf (k (r .state) .outcome); state = k (r .state) .state; log = g }) (sym (appended-append l (r .events) (k (r .state) .events))))
 
 -- it did not run to its end
 abbrev pub Stopped : Outcome → Type 0
 Stopped o = OneOf (1 ∷ 2 ∷ 3 ∷ []) (tagOf Rattle.reports.proofs.Outcome.the-type o)
 
-after-stop : (l : Log) (r : rules.Run) (k : KernelState → rules.Run) (o : rules.Outcome) → r .outcome ≡ o → Stopped (told o) → rules.andThen r k ≡ r
+after-stop : (l : Log) (r : rules.Run) (k : KernelState → rules.Run) (o : rules.Outcome) → r .outcome ≡ o → Stopped (outcomeOf o) → rules.andThen r k ≡ r
 unfolding rules.andThen
 after-stop l r k rules.ran e m = absurd (⊎-elim (λ z. omega arith) (λ y. ⊎-elim (λ z. omega arith) (λ z. omega arith) y) m)
 after-stop l r k rules.left e m = rw e
 after-stop l r k (rules.halt h) e m = rw e
 after-stop l r k (rules.ended ms) e m = rw e
 
-module _ (l : Log) (r : rules.Run) (k : KernelState → rules.Run) (a : Step) (w : List ℕ) (e : seen a w ≡ played l r) where
-  outcome-is : a .outcome ≡ told (r .outcome)
-  unfolding played
-  outcome-is = ap (λ (x : Seen). x .outcome) e
+module _ (l : Log) (r : rules.Run) (k : KernelState → rules.Run) (a : Step) (w : List ℕ) (e : actual a w ≡ expected l r) where
+  outcome-is : a .outcome ≡ outcomeOf (r .outcome)
+  unfolding expected
+  outcome-is = ap (λ (x : StepResult). x .outcome) e
 
-  rest-is : played (logAt w (a .raised)) (k (a .state)) ≡ played (noted l (r .events)) (k (r .state))
-  unfolding played
-  rest-is = ap (λ (x : Seen). played (x .log) (k (x .state))) e
+  rest-is : expected (logAt w (a .raised)) (k (a .state)) ≡ expected (appendEvents l (r .events)) (k (r .state))
+  unfolding expected
+  rest-is = ap (λ (x : StepResult). expected (x .log) (k (x .state))) e
 
   -- it ran: the rest goes on from what it left
-  pub then-ran : a .outcome ≡ Ran → played l (rules.andThen r k) ≡ played (logAt w (a .raised)) (k (a .state))
+  pub then-ran : a .outcome ≡ Ran → expected l (rules.andThen r k) ≡ expected (logAt w (a .raised)) (k (a .state))
   then-ran h = after-ran l r k (only-ran (r .outcome) (sym outcome-is ∙ h)) ∙ sym rest-is
 
   -- it did not: what it left is all
-  pub then-stop : Stopped (a .outcome) → seen a w ≡ played l (rules.andThen r k)
-  then-stop m = e ∙ ap (played l) (sym (after-stop l r k (r .outcome) refl (subst Stopped outcome-is m)))
+  pub then-stop : Stopped (a .outcome) → actual a w ≡ expected l (rules.andThen r k)
+  then-stop m = e ∙ ap (expected l) (sym (after-stop l r k (r .outcome) refl (subst Stopped outcome-is m)))
 
   -- the same, for what the rest gives: laws of this form chain, each to the goal that the next one meets
-  pub then-on : a .outcome ≡ Ran → {x : Seen} → x ≡ played (logAt w (a .raised)) (k (a .state)) → x ≡ played l (rules.andThen r k)
+  pub then-on : a .outcome ≡ Ran → {x : StepResult} → x ≡ expected (logAt w (a .raised)) (k (a .state)) → x ≡ expected l (rules.andThen r k)
   then-on h p = p ∙ sym (then-ran h)
 
 -- ---- an event, then k: m is the log with it
-pub raise-on : (l : Log) (e : KernelEvent) (s : KernelState) (k : KernelState → rules.Run) (m : Log) → m ≡ note l e → {x : Seen} → x ≡ played m (k s) → x ≡ played l (rules.andThen (rules.raised e s) k)
-raise-on l e s k m h p = p ∙ (ap (λ (g : Log). played g (k s)) h ∙ sym (raised-then l e s k))
+pub raise-on : (l : Log) (e : KernelEvent) (s : KernelState) (k : KernelState → rules.Run) (m : Log) → m ≡ appendEvent l e → {x : StepResult} → x ≡ expected m (k s) → x ≡ expected l (rules.andThen (rules.raised e s) k)
+raise-on l e s k m h p = p ∙ (ap (λ (g : Log). expected g (k s)) h ∙ sym (raised-then l e s k))
 
 -- ---- a report that was made apart is the one that the rules name
-pub sent : (l : Log) (cfg : Config) (s : KernelState) {r q : ReportRec} → r ≡ q → {x : Seen} → x ≡ played l (queueDelivery cfg r fill.None s) → x ≡ played l (queueDelivery cfg q fill.None s)
-sent l cfg s h p = p ∙ ap (λ (r : ReportRec). played l (queueDelivery cfg r fill.None s)) h
+pub sent : (l : Log) (cfg : Config) (s : KernelState) {r q : ReportRec} → r ≡ q → {x : StepResult} → x ≡ expected l (queueDelivery cfg r fill.None s) → x ≡ expected l (queueDelivery cfg q fill.None s)
+sent l cfg s h p = p ∙ ap (λ (r : ReportRec). expected l (queueDelivery cfg r fill.None s)) h
 
 -- ---- a stamp, then k: `next` is what the code has for the next number
 module _ (l : Log) (s : KernelState) (k : KernelState → rules.Run) (next : MaybeU64) (e : next ≡ fitting (s .seqs .«stamp_seq» + 1)) where
-  pub stamp-on : {n : ℕ} → next ≡ Some n → {x : Seen} → x ≡ played l (k (withSeqs s (seqsStampSeq (s .seqs) n))) → x ≡ played l (rules.andThen (stamp s) k)
+  pub stamp-on : {n : ℕ} → next ≡ Some n → {x : StepResult} → x ≡ expected l (k (withSeqs s (seqsStampSeq (s .seqs) n))) → x ≡ expected l (rules.andThen (stamp s) k)
   unfolding stamp onWord rules.andThen
   stamp-on h p = rw (← e, h) p
 
-  pub stamp-full : next ≡ None → record { outcome = Halt CounterOverflow; state = s; log = l } ≡ played l (rules.andThen (stamp s) k)
-  unfolding stamp onWord rules.andThen played noted
+  pub stamp-full : next ≡ None → record { outcome = Halt CounterOverflow; state = s; log = l } ≡ expected l (rules.andThen (stamp s) k)
+  unfolding stamp onWord rules.andThen expected appendEvents
   stamp-full h = rw (← e, h)
 
 -- ---- an entry that comes out of a list, then k: q is what the code has of it
 module _ {A : Type 0} (l : Log) (p : Taken A) (k : A → Row A → rules.Run) (z : rules.Run) (q : Taken A) (e : q ≡ p) where
-  pub take-on : {y : A} → q .got ≡ some y → {x : Seen} → x ≡ played l (k y (q .list)) → x ≡ played l (rules.taking p k z)
+  pub take-on : {y : A} → q .got ≡ some y → {x : StepResult} → x ≡ expected l (k y (q .list)) → x ≡ expected l (rules.taking p k z)
   unfolding onSome rules.taking
   take-on h c = rw (← e, h) c
 
-  pub take-none : q .got ≡ none → {x : Seen} → x ≡ played l z → x ≡ played l (rules.taking p k z)
+  pub take-none : q .got ≡ none → {x : StepResult} → x ≡ expected l z → x ≡ expected l (rules.taking p k z)
   unfolding onSome rules.taking
   take-none h c = rw (← e, h) c
 
 -- ---- what a callee's step tells of r itself
-module _ (l : Log) (r : rules.Run) (a : Step) (w : List ℕ) (e : seen a w ≡ played l r) where
+module _ (l : Log) (r : rules.Run) (a : Step) (w : List ℕ) (e : actual a w ≡ expected l r) where
   pub state-is : a .state ≡ r .state
-  unfolding played
-  state-is = ap (λ (x : Seen). x .state) e
+  unfolding expected
+  state-is = ap (λ (x : StepResult). x .state) e
 
   pub ran-too : a .outcome ≡ Ran → r .outcome ≡ rules.ran
-  unfolding played
-  ran-too h = only-ran (r .outcome) (sym (ap (λ (x : Seen). x .outcome) e) ∙ h)
+  unfolding expected
+  ran-too h = only-ran (r .outcome) (sym (ap (λ (x : StepResult). x .outcome) e) ∙ h)
 
 -- ---- a sum that fits, and one that does not
 pub fits-none : (n : ℕ) → fitting n ≡ None → fits n ≡ false

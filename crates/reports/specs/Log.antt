@@ -1,4 +1,4 @@
--- For the inner functions: the log under way, and what a step leaves. `seen` is what the code gives, `played` what the rules give with its events noted in the log.
+-- For the inner functions: the log under way, and what a step leaves. `actual` is what the code gives, `expected` what the rules give with their events appended to the log.
 use Prim.Native.Nat.{ℕ, _+_, _*_, min}
 use mathlib.Core.List.{List, [], _∷_, _++_}
 use lib.Dec.{ltb}
@@ -24,36 +24,36 @@ abbrev pub logAt : List ℕ → ℕ → Log
 logAt w n = record { words = w; count = n }
 
 -- the event behind the others: its writer gets the rest of the log. The count stays at its largest number, which a call never reaches
-unfoldable pub note : Log → KernelEvent → Log
-note l e = record {
+unfoldable pub appendEvent : Log → KernelEvent → Log
+appendEvent l e = record {
   words = pick (ltb (l .count) top) (take (l .count * 12) (l .words) ++ written (drop (l .count * 12) (l .words)) (e ∷ [])) (l .words);
   count = min (l .count + 1) top;
 }
 
-unfoldable pub noted : Log → List KernelEvent → Log
-noted l [] = l
-noted l (e ∷ es) = noted (note l e) es
+unfoldable pub appendEvents : Log → List KernelEvent → Log
+appendEvents l [] = l
+appendEvents l (e ∷ es) = appendEvents (appendEvent l e) es
 
 -- how a step went: the code does not carry the messages that end of data dropped
-abbrev pub told : rules.Outcome → Outcome
-told rules.ran = Ran
-told rules.left = Left
-told (rules.halt h) = Halt h
-told (rules.ended ms) = Ended
+abbrev pub outcomeOf : rules.Outcome → Outcome
+outcomeOf rules.ran = Ran
+outcomeOf rules.left = Left
+outcomeOf (rules.halt h) = Halt h
+outcomeOf (rules.ended ms) = Ended
 
 -- what a step leaves: how it went, the state, and the log
-pub record Seen : Type 0 where
+pub record StepResult : Type 0 where
   pub outcome : Outcome
   pub state : KernelState
   pub log : Log
 
--- what the rules give, its events noted behind those of the log
-unfoldable pub played : Log → rules.Run → Seen
-played l r = record { outcome = told (r .outcome); state = r .state; log = noted l (r .events) }
+-- what the rules give, their events appended behind those of the log
+unfoldable pub expected : Log → rules.Run → StepResult
+expected l r = record { outcome = outcomeOf (r .outcome); state = r .state; log = appendEvents l (r .events) }
 
 -- what the code gives
-abbrev pub seen : Step → List ℕ → Seen
-seen a w = record { outcome = a .outcome; state = a .state; log = logAt w (a .raised) }
+abbrev pub actual : Step → List ℕ → StepResult
+actual a w = record { outcome = a .outcome; state = a .state; log = logAt w (a .raised) }
 
 -- the state at a stamp, from the state after it
 abbrev pub stampedAt : ℕ → KernelState → KernelState

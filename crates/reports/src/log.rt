@@ -10,7 +10,7 @@ ghost use mathlib.Core.Path.{_≡_};
 ghost use mathlib.Core.List.{[], _∷_};
 ghost use Rattle.book.specs.Numbers.{sideNumber, execNumber, originNumber, flagNumber, haltNumber};
 ghost use Rattle.rules.specs.Log.{reportWords, fillWords, shortWords, eventWords, written};
-ghost use Rattle.reports.specs.Log.{logAt, note};
+ghost use Rattle.reports.specs.Log.{logAt, appendEvent};
 
 fn side_word(side: Side) -> u64
     ensures { λ r. ⌜ r ≡ sideNumber side ⌝ }
@@ -152,7 +152,7 @@ fn write_event(rest: &mut [u64], e: KernelEvent)
 
 // The event behind the `raised` ones before it: the log's part from the next record on is lent to its writer. The count stays at its largest number, which a call never reaches.
 pub fn emit(log: &mut [u64], raised: u64, e: KernelEvent) -> u64
-    ensures { λ r. ⌜ logAt (now (log .exit)) r ≡ note (logAt (now (log .entry)) raised) e ⌝ }
+    ensures { λ r. ⌜ logAt (now (log .exit)) r ≡ appendEvent (logAt (now (log .entry)) raised) e ⌝ }
 {
     if raised == u64::MAX {
         return raised;

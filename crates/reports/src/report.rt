@@ -21,10 +21,10 @@ ghost use mathlib.Core.Path.{_≡_};
 ghost use Rattle.book.specs.declared.state.KernelState.{KernelState};
 ghost use Rattle.book.specs.declared.MaybeFill.the-variants.{None};
 ghost use Rattle.rules.specs.Report.{reportAt, reported, queueDelivery};
-ghost use Rattle.reports.specs.Log.{logAt, played, seen};
+ghost use Rattle.reports.specs.Log.{logAt, expected, actual};
 ghost use Rattle.reports.specs.Report.{reportedIn, withReport, queuedIn, withQueue};
 
-// What telling a report changes: the clock's `last_delivery_ns` is the time of its delivery.
+// What a report changes: the clock's `last_delivery_ns` is the time of its delivery.
 pub struct Reported {
     pub outcome: Outcome,
     pub rng_latency: u64,
@@ -77,7 +77,7 @@ pub fn report_on(
     rng_latency: u64,
     clock: Clock,
 ) -> Reported
-    ensures { λ r. ⌜ ((s : KernelState) → seen (reportedIn s r) (now (log .exit)) ≡ played (logAt (now (log .entry)) raised) (reported cfg report (withReport s «rng_latency» clock))) ⌝ }
+    ensures { λ r. ⌜ ((s : KernelState) → actual (reportedIn s r) (now (log .exit)) ≡ expected (logAt (now (log .entry)) raised) (reported cfg report (withReport s «rng_latency» clock))) ⌝ }
 {
     let arrival = delayed(cfg, rng_latency, report.ts_ns, cfg.ack_q);
     let time = arrival.time;
@@ -100,7 +100,7 @@ pub fn report_on(
     }
 }
 
-// A report, told and on its way.
+// A report: its event, and its delivery on the way.
 pub fn queue_delivery(
     log: &mut [u64],
     raised: u64,
@@ -111,7 +111,7 @@ pub fn queue_delivery(
     clock: Clock,
     deliveries: Deliveries,
 ) -> Queued
-    ensures { λ r. ⌜ ((s : KernelState) → seen (queuedIn s r) (now (log .exit)) ≡ played (logAt (now (log .entry)) raised) (queueDelivery cfg report fill (withQueue s «rng_latency» clock deliveries))) ⌝ }
+    ensures { λ r. ⌜ ((s : KernelState) → actual (queuedIn s r) (now (log .exit)) ≡ expected (logAt (now (log .entry)) raised) (queueDelivery cfg report fill (withQueue s «rng_latency» clock deliveries))) ⌝ }
 {
     let r = report_on(log, raised, cfg, report, rng_latency, clock);
     let next = r.clock;
@@ -151,7 +151,7 @@ pub fn queue_delivery(
 
 // A report without a fill, from the whole state.
 pub fn send(log: &mut [u64], raised: u64, cfg: Config, report: ReportRec, s: KernelState) -> Step
-    ensures { λ r. ⌜ seen r (now (log .exit)) ≡ played (logAt (now (log .entry)) raised) (queueDelivery cfg report None s) ⌝ }
+    ensures { λ r. ⌜ actual r (now (log .exit)) ≡ expected (logAt (now (log .entry)) raised) (queueDelivery cfg report None s) ⌝ }
 {
     let clock = s.clock;
     let deliveries = s.deliveries;

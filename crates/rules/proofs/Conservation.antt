@@ -24,7 +24,7 @@ use Rattle.rules.specs.Phases.{phaseTurn, phases}
 use Rattle.rules.specs.Calls.{Did, refused, stays, halts, ends, Answer, refuse, answerOn, answer, countsFit, advance, isPaused, canResume, passed, pass}
 use Rattle.rules.specs.Conservation.{recordedOn, undelivered, Each, Conserved, Closed, Call, advances, passes, result, AfterEach, After, Claim}
 use Rattle.rules.proofs.Cases.{word-case}
-use Rattle.rules.proofs.Positions.{even-same, even-apart, even-joined}
+use Rattle.rules.proofs.Positions.{balanced-same, balanced-apart, balanced-joined}
 use Rattle.rules.proofs.Kept.{KeptAt}
 use Rattle.rules.proofs.Held.{when, over, Inv, AtEnd, Good}
 use Rattle.rules.proofs.HeldPhases.{phases-good}
@@ -61,8 +61,8 @@ inside s r h =
     let a = three-of (leb (s .orders .count) 8) (leb (s .msgs .count) 16) _ (leb (s .deliveries .count) 24) _ _ r in
     record {
       lots = λ x. omega (arith, h .lots x);
-      calm = none-over _ (h .open-orders);
-      even = even-same _ _ (total (recordedOn Buy) (undelivered s)) _ (total (recordedOn Sell) (undelivered s)) _ (omega arith) (omega arith) (even-joined _ _ _ _ (h .positions));
+      no-terminal = none-over _ (h .open-orders);
+      balanced = balanced-same _ _ (total (recordedOn Buy) (undelivered s)) _ (total (recordedOn Sell) (undelivered s)) _ (omega arith) (omega arith) (balanced-joined _ _ _ _ (h .positions));
       few-orders = leb-true _ _ (a .0);
       few-msgs = leb-true _ _ (a .1);
       few-deliveries = leb-true _ _ (a .2);
@@ -72,8 +72,8 @@ outside : (s : KernelState) → Inv s → Conserved s
 outside s h =
     record {
       lots = λ x. omega (arith, h .lots x);
-      open-orders = all-open _ (h .calm);
-      positions = even-apart _ _ _ _ (even-same _ _ _ (total (recordedOn Buy) (undelivered s)) _ (total (recordedOn Sell) (undelivered s)) (omega arith) (omega arith) (h .even));
+      open-orders = all-open _ (h .no-terminal);
+      positions = balanced-apart _ _ _ _ (balanced-same _ _ _ (total (recordedOn Buy) (undelivered s)) _ (total (recordedOn Sell) (undelivered s)) (omega arith) (omega arith) (h .balanced));
     }
 
 -- ---- one call

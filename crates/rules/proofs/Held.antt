@@ -1,4 +1,4 @@
--- What is held inside a call: the three properties with lots in hand between two steps, and the gate's part in them. Assumes nothing.
+-- What is held inside a call: the three properties with lots that are on their way from one list to another, and the gate's part in them. Assumes nothing.
 use Prim.Native.Nat.{ℕ, _+_, _-_, _≤_}
 use mathlib.Core.Bool.{Bool, true, false}
 use mathlib.Core.List.{List}
@@ -26,7 +26,7 @@ use Rattle.rules.specs.Messages.{released}
 use Rattle.rules.specs.Matching.{gateFilled}
 use Rattle.rules.specs.Conservation.{ofSide, lotsOn, carriedOn, recordedOn, Closed}
 use Rattle.rules.proofs.Cases.{movedBy, moved-case}
-use Rattle.rules.proofs.Positions.{Even}
+use Rattle.rules.proofs.Positions.{Balanced}
 use Rattle.rules.proofs.Kept.{Kept}
 
 -- n where b
@@ -46,19 +46,19 @@ overLots o = when (isTerminal (o .state)) (remaining o)
 abbrev pub nil : Side → ℕ
 nil x = 0
 
--- `hand` lots of each side are in hand: live, and neither booked nor queued. `fills` lots of each side are filled, and in no delivery yet. t of the booked orders is 0.
-pub record HeldBy (t : VenueOrder → ℕ) (hand fills : Side → ℕ) (venue agent : ℤ) (buy sell : ℕ) (os : Orders) (ms : Msgs) (ds : Deliveries) : Type 0 where
-  pub lots : (x : Side) → onSide x buy sell ≡ hand x + (total (lotsOn x) (below (ordersRow os)) + total (carriedOn x) (below (msgsRow ms)))
-  pub calm : total t (below (ordersRow os)) ≡ 0
-  pub even : Even venue agent (fills Buy + total (recordedOn Buy) (below (deliveriesRow ds))) (fills Sell + total (recordedOn Sell) (below (deliveriesRow ds)))
+-- `unplaced` lots of each side are live, and neither booked nor queued. `unreported` lots of each side are filled, and in no delivery yet. t of the booked orders is 0.
+pub record HeldBy (t : VenueOrder → ℕ) (unplaced unreported : Side → ℕ) (venue agent : ℤ) (buy sell : ℕ) (os : Orders) (ms : Msgs) (ds : Deliveries) : Type 0 where
+  pub lots : (x : Side) → onSide x buy sell ≡ unplaced x + (total (lotsOn x) (below (ordersRow os)) + total (carriedOn x) (below (msgsRow ms)))
+  pub no-terminal : total t (below (ordersRow os)) ≡ 0
+  pub balanced : Balanced venue agent (unreported Buy + total (recordedOn Buy) (below (deliveriesRow ds))) (unreported Sell + total (recordedOn Sell) (below (deliveriesRow ds)))
   pub few-orders : os .count ≤ 8
   pub few-msgs : ms .count ≤ 16
   pub few-deliveries : ds .count ≤ 24
 
 -- only these parts of the state matter: a step that leaves them keeps it as it stands
 abbrev pub Held : (VenueOrder → ℕ) → (Side → ℕ) → (Side → ℕ) → KernelState → Type 0
-Held t hand fills s =
-    HeldBy t hand fills (s .gate .«venue_pos» .lots) (s .agent .pos .lots) (s .gate .«live_buy_lots») (s .gate .«live_sell_lots») (s .orders) (s .msgs) (s .deliveries)
+Held t unplaced unreported s =
+    HeldBy t unplaced unreported (s .gate .«venue_pos» .lots) (s .agent .pos .lots) (s .gate .«live_buy_lots») (s .gate .«live_sell_lots») (s .orders) (s .msgs) (s .deliveries)
 
 -- between two steps
 abbrev pub Inv : KernelState → Type 0

@@ -19,7 +19,7 @@ use Rattle.book.specs.declared.state.KernelState.{KernelState}
 use Rattle.rules.specs.Delivery.{countFill, moveAgent, countReject, deliverNext, deliverAll, droppedEvent, emptyQueues, closeData, endOfData}
 use Rattle.rules.specs.Conservation.{carriedOn, recordedBy, recordedOn, Closed}
 use Rattle.rules.proofs.Cases.{moved-case}
-use Rattle.rules.proofs.Positions.{even-same, even-agent, even-equal}
+use Rattle.rules.proofs.Positions.{balanced-same, balanced-agent, balanced-equal}
 use Rattle.rules.proofs.Kept.{ran-kept, halt-kept, ended-kept, after-kept, pick-kept, word-kept, taking-kept, raised-then, then-kept}
 use Rattle.rules.proofs.Held.{over, nil, Held, Inv, Good}
 
@@ -32,8 +32,8 @@ took-delivery : (s : KernelState) (d : Delivery) (l : Row Delivery) → Took 24 
 took-delivery s d l k h =
     record {
       lots = h .lots;
-      calm = h .calm;
-      even = even-same _ _ _ _ _ _ (omega (arith, k .sums (recordedOn Buy) refl)) (omega (arith, k .sums (recordedOn Sell) refl)) (h .even);
+      no-terminal = h .no-terminal;
+      balanced = balanced-same _ _ _ _ _ _ (omega (arith, k .sums (recordedOn Buy) refl)) (omega (arith, k .sums (recordedOn Sell) refl)) (h .balanced);
       few-orders = h .few-orders;
       few-msgs = h .few-msgs;
       few-deliveries = omega (arith, k .one-less, k .within);
@@ -49,8 +49,8 @@ move-good n (fill.Some f) s h w =
     (λ k. ran-kept (
       (record {
         lots = h .lots;
-        calm = h .calm;
-        even = even-same _ _ _ _ _ _ (omega arith) (omega arith) (even-agent (f .side) (f .qty) _ _ _ _ (h .even));
+        no-terminal = h .no-terminal;
+        balanced = balanced-same _ _ _ _ _ _ (omega arith) (omega arith) (balanced-agent (f .side) (f .qty) _ _ _ _ (h .balanced));
         few-orders = h .few-orders;
         few-msgs = h .few-msgs;
         few-deliveries = h .few-deliveries;
@@ -90,8 +90,8 @@ closed s g =
     let h = g .0 in
     record {
       positions =
-          even-equal _ _
-          (even-same _ _ _ _ _ _ (none-left (recordedOn Buy) (s .deliveries .count) (s .deliveries .slots) (g .1)) (none-left (recordedOn Sell) (s .deliveries .count) (s .deliveries .slots) (g .1)) (h .even));
+          balanced-equal _ _
+          (balanced-same _ _ _ _ _ _ (none-left (recordedOn Buy) (s .deliveries .count) (s .deliveries .slots) (g .1)) (none-left (recordedOn Sell) (s .deliveries .count) (s .deliveries .slots) (g .1)) (h .balanced));
       lots = λ x. omega (arith, ap (total (carriedOn x)) (live-below 16 (msgsRow (s .msgs)) (h .few-msgs)), h .lots x);
     }
 

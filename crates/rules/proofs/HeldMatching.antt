@@ -28,10 +28,10 @@ use Rattle.numbers.specs.Choice.{pick}
 use Rattle.numbers.specs.Words.{onWord}
 use Rattle.book.specs.declared.state.KernelState.{KernelState}
 use Rattle.rules.specs.Messages.{removeExpiry}
-use Rattle.rules.specs.Matching.{lotsOf, queueFillLots, fillLots, filledBy, fillCounted, fillEvent, fillAt, Fills, no-fill, fills, fails, fillsOf, fillsAt, filling, matchAt, matchFrom, leave, terminalAt, sweepFrom, sweep, marked, matchRow}
+use Rattle.rules.specs.Matching.{lotsOf, queueFillLots, fillLots, filledBy, fillCounted, fillEvent, fillAt, Fills, no-fill, fills, fails, fillsOf, fillsAt, filling, matchAt, matchFrom, leave, terminalAt, sweepFrom, sweep, gateMarked, matchRow}
 use Rattle.rules.specs.Conservation.{ofSide, lotsOn}
 use Rattle.rules.proofs.Cases.{movedBy}
-use Rattle.rules.proofs.Positions.{even-same, even-venue}
+use Rattle.rules.proofs.Positions.{balanced-same, balanced-venue}
 use Rattle.rules.proofs.Kept.{ran-kept, halt-kept, pick-kept, word-kept, taking-kept, raised-kept, ran-then, picks-kept, then-kept}
 use Rattle.rules.proofs.Steps.{stamp-then, await-kept}
 use Rattle.rules.proofs.Held.{when, over, overLots, nil, Held, Inv, Mid, Good, Gone, gateWith, no-lots, split-lots, filled-case}
@@ -103,8 +103,8 @@ module _ (i n : ℕ) (s : KernelState) (w : i < s .orders .count) (some-lots : 0
       let k : Stored blankOrder i (filledBy n o) (ordersRow (s .orders)) (storeAt 8 i (filledBy n o) (ordersRow (s .orders)) .list) = stored 8 blankOrder i (filledBy n o) (ordersRow (s .orders)) (h .few-orders) w slot in
       record {
         lots = λ x. unfold filledBy in omega (arith, q x, k .sums (lotsOn x), split-lots x (o .side) n (remaining o) (o .qty - (o .filled + n)) (omega arith), h .lots x);
-        calm = omega (arith, k .sums overLots, spent n o, h .calm);
-        even = even-same _ _ _ _ _ _ (omega arith) (omega arith) (even-venue (o .side) n _ _ _ _ (h .even));
+        no-terminal = omega (arith, k .sums overLots, spent n o, h .no-terminal);
+        balanced = balanced-same _ _ _ _ _ _ (omega arith) (omega arith) (balanced-venue (o .side) n _ _ _ _ (h .balanced));
         few-orders = omega (arith, k .same-count, h .few-orders);
         few-msgs = h .few-msgs;
         few-deliveries = h .few-deliveries;
@@ -167,8 +167,8 @@ empty-hand : {t : VenueOrder → ℕ} (o : VenueOrder) (s : KernelState) → rem
 empty-hand o s z h =
     record {
       lots = λ x. omega (arith, no-lots x (o .side) (remaining o) z, h .lots x);
-      calm = h .calm;
-      even = h .even;
+      no-terminal = h .no-terminal;
+      balanced = h .balanced;
       few-orders = h .few-orders;
       few-msgs = h .few-msgs;
       few-deliveries = h .few-deliveries;
@@ -193,7 +193,7 @@ leave-good i s h z w e = taking-kept (λ o l k. let g = gone o l k in await-kept
     gone o l k =
         let there-is : i < length (s .orders .slots) = there over (s .orders .slots) i blankOrder refl (when-one (isTerminal (orderAt i s .state)) e) in
         let v : total over (take i (below l)) ≡ 0 = rw (front-same 8 blankOrder i (ordersRow (s .orders)) o l k there-is) z in
-        let r : remaining o ≡ 0 = when-none (isTerminal (o .state)) (remaining o) (rw (k .is) e) (omega (arith, k .sums overLots refl, h .calm)) in
+        let r : remaining o ≡ 0 = when-none (isTerminal (o .state)) (remaining o) (rw (k .is) e) (omega (arith, k .sums overLots refl, h .no-terminal)) in
         let m : Mid (withOrders s (ordersOf l)) = empty-hand o (withOrders s (ordersOf l)) r (took-order refl i s o l k h) in
         removed-held (Swept i (s .orders .count)) (o .id) (withOrders s (ordersOf l)) m (m, v, k .one-less) (λ x y. (y, v, k .one-less))
 
@@ -203,8 +203,8 @@ sweep-from zero i s w h z =
     ran-kept
     (record {
       lots = h .lots;
-      calm = omega (arith, front-all over i (ordersRow (s .orders)) (omega arith));
-      even = h .even;
+      no-terminal = omega (arith, front-all over i (ordersRow (s .orders)) (omega arith));
+      balanced = h .balanced;
       few-orders = h .few-orders;
       few-msgs = h .few-msgs;
       few-deliveries = h .few-deliveries;
@@ -222,18 +222,18 @@ mid : (s : KernelState) → Inv s → Mid s
 mid s h =
     record {
       lots = h .lots;
-      calm = total-none over overLots (λ o. no-lots-over (isTerminal (o .state)) (remaining o)) _ (h .calm);
-      even = h .even;
+      no-terminal = total-none over overLots (λ o. no-lots-over (isTerminal (o .state)) (remaining o)) _ (h .no-terminal);
+      balanced = h .balanced;
       few-orders = h .few-orders;
       few-msgs = h .few-msgs;
       few-deliveries = h .few-deliveries;
     }
 
 -- a mark moves no lots
-marked-held : (mid2 : ℕ) (s : KernelState) → Mid s → Mid (withGate s (marked mid2 (s .gate)))
-unfolding marked
-marked-held mid2 s h = pick-case (λ g. Mid (withGate s g)) (eqb mid2 0) _ _ (λ _. h) (λ _. h)
+gate-marked-held : (mid2 : ℕ) (s : KernelState) → Mid s → Mid (withGate s (gateMarked mid2 (s .gate)))
+unfolding gateMarked
+gate-marked-held mid2 s h = pick-case (λ g. Mid (withGate s g)) (eqb mid2 0) _ _ (λ _. h) (λ _. h)
 
 pub match-row-good : (c : Config) (row : KernelTick) (s : KernelState) → Inv s → Good Inv (matchRow c row s)
 unfolding matchRow
-match-row-good c row s h = word-kept _ (λ mid2. then-kept (match-all c row _ 0 _ (marked-held mid2 s (mid s h))) sweep-good) halt-kept
+match-row-good c row s h = word-kept _ (λ mid2. then-kept (match-all c row _ 0 _ (gate-marked-held mid2 s (mid s h))) sweep-good) halt-kept

@@ -27,39 +27,39 @@ use Rattle.rules.specs.Run.{ranTo, andThen}
 use Rattle.rules.specs.Report.{pushDelivery, reported, queueDelivery}
 use Rattle.rules.specs.Messages.{release, book, schedule, removeExpiry, scheduleExpiry, accept, reject, activate, activation, cancelBooked, onActivation, cancelPending, cancelAwaiting, cancel, expireBooked, expire, acts, applyNextMsg}
 use Rattle.rules.specs.Conservation.{lotsOn, carriedBy, carriedOn, recordedBy, recordedOn}
-use Rattle.rules.proofs.Positions.{even-same}
+use Rattle.rules.proofs.Positions.{balanced-same}
 use Rattle.rules.proofs.Kept.{ran-kept, halt-kept, pick-kept, some-kept, word-kept, taking-kept, putting-kept, raised-kept, raised-then, then-kept}
 use Rattle.rules.proofs.Steps.{stamp-then, delayed-kept, await-kept}
 use Rattle.rules.proofs.Held.{over, nil, Held, Inv, Good, blank-lots, released-case}
 
 -- ---- a report
-module _ {t : VenueOrder → ℕ} {hand : Side → ℕ} where
-  push-good : (d : Delivery) (s : KernelState) → Held t hand (λ x. recordedOn x d) s → Good (Held t hand nil) (pushDelivery d s)
+module _ {t : VenueOrder → ℕ} {unplaced : Side → ℕ} where
+  push-good : (d : Delivery) (s : KernelState) → Held t unplaced (λ x. recordedOn x d) s → Good (Held t unplaced nil) (pushDelivery d s)
   unfolding pushDelivery
   push-good d s h = putting-kept _ _ s λ l a.
       record {
         lots = h .lots;
-        calm = h .calm;
-        even = even-same _ _ _ _ _ _ (omega (arith, a .sums (recordedOn Buy))) (omega (arith, a .sums (recordedOn Sell))) (h .even);
+        no-terminal = h .no-terminal;
+        balanced = balanced-same _ _ _ _ _ _ (omega (arith, a .sums (recordedOn Buy))) (omega (arith, a .sums (recordedOn Sell))) (h .balanced);
         few-orders = h .few-orders;
         few-msgs = h .few-msgs;
         few-deliveries = a .room;
       }
 
-  -- the fill that it tells is in a delivery
-  pub report-good : (c : Config) (r : ReportRec) (f : MaybeFill) (s : KernelState) → Held t hand (λ x. recordedBy x f) s → Good (Held t hand nil) (queueDelivery c r f s)
+  -- the fill that it reports is in a delivery
+  pub report-good : (c : Config) (r : ReportRec) (f : MaybeFill) (s : KernelState) → Held t unplaced (λ x. recordedBy x f) s → Good (Held t unplaced nil) (queueDelivery c r f s)
   unfolding queueDelivery reported
   report-good c r f s h = then-kept (delayed-kept c _ _ s _ λ at rng. raised-kept h) (λ t g. push-good _ t g)
 
-  pub told-good : (c : Config) (r : ReportRec) (s : KernelState) → Held t hand nil s → Good (Held t hand nil) (queueDelivery c r fill.None s)
-  told-good c r s h = report-good c r fill.None s h
+  pub plain-report-good : (c : Config) (r : ReportRec) (s : KernelState) → Held t unplaced nil s → Good (Held t unplaced nil) (queueDelivery c r fill.None s)
+  plain-report-good c r s h = report-good c r fill.None s h
 
 -- ---- an order in hand
-pub release-good : {t : VenueOrder → ℕ} {fills : Side → ℕ} (o : VenueOrder) (s : KernelState) → Held t (λ x. lotsOn x o) fills s → Good (Held t nil fills) (release o s)
+pub release-good : {t : VenueOrder → ℕ} {unreported : Side → ℕ} (o : VenueOrder) (s : KernelState) → Held t (λ x. lotsOn x o) unreported s → Good (Held t nil unreported) (release o s)
 unfolding release
 release-good o s h = released-case (Good _) _ _ _ _ _
     (λ buy sell q. ran-kept
-    (record { lots = λ x. omega (arith, q x, h .lots x); calm = h .calm; even = h .even; few-orders = h .few-orders; few-msgs = h .few-msgs; few-deliveries = h .few-deliveries }))
+    (record { lots = λ x. omega (arith, q x, h .lots x); no-terminal = h .no-terminal; balanced = h .balanced; few-orders = h .few-orders; few-msgs = h .few-msgs; few-deliveries = h .few-deliveries }))
     halt-kept
 
 -- a booked order comes into the hand
@@ -68,8 +68,8 @@ pub took-order : {t : VenueOrder → ℕ} → t blankOrder ≡ 0 → (i : ℕ) (
 took-order {t} z i s o l k h =
     record {
       lots = λ x. omega (arith, k .sums (lotsOn x) (blank-lots x), h .lots x);
-      calm = omega (arith, k .sums t z, h .calm);
-      even = h .even;
+      no-terminal = omega (arith, k .sums t z, h .no-terminal);
+      balanced = h .balanced;
       few-orders = omega (arith, k .one-less, k .within);
       few-msgs = h .few-msgs;
       few-deliveries = h .few-deliveries;
@@ -80,8 +80,8 @@ took-msg : (i : ℕ) (s : KernelState) (m : VenueMsg) (l : Row VenueMsg) → Too
 took-msg i s m l k h =
     record {
       lots = λ x. omega (arith, k .sums (carriedOn x) refl, h .lots x);
-      calm = h .calm;
-      even = h .even;
+      no-terminal = h .no-terminal;
+      balanced = h .balanced;
       few-orders = h .few-orders;
       few-msgs = omega (arith, k .one-less, k .within);
       few-deliveries = h .few-deliveries;
@@ -93,28 +93,28 @@ no-order x id (Cancel i) e = refl
 no-order x id (Activate o life) e = absurd (false≢true e)
 no-order x id (Expire i) e = refl
 
-pub removed-held : {t : VenueOrder → ℕ} {hand fills : Side → ℕ} (Q : KernelState → Type 0) (id : ℕ) (s : KernelState) → Held t hand fills s → Q s
-    → ((l : Row VenueMsg) → Held t hand fills (withMsgs s (msgsOf l)) → Q (withMsgs s (msgsOf l))) → Q (removeExpiry id s)
+pub removed-held : {t : VenueOrder → ℕ} {unplaced unreported : Side → ℕ} (Q : KernelState → Type 0) (id : ℕ) (s : KernelState) → Held t unplaced unreported s → Q s
+    → ((l : Row VenueMsg) → Held t unplaced unreported (withMsgs s (msgsOf l)) → Q (withMsgs s (msgsOf l))) → Q (removeExpiry id s)
 unfolding removeExpiry
-removed-held {t} {hand} {fills} Q id s h q f =
+removed-held {t} {unplaced} {unreported} Q id s h q f =
     some-case Q _ _ _
     (λ i e. let w = found-live _ blankMsg 16 (msgsRow (s .msgs)) i e in
     take-case 16 (λ y. Q (withMsgs s (msgsOf (y .list)))) blankMsg i (msgsRow (s .msgs)) (λ m l k. f l (out i m l k (w .2))) (λ _. q))
     (λ _. q)
   where
-    out : (i : ℕ) (m : VenueMsg) (l : Row VenueMsg) → Took 16 blankMsg i (msgsRow (s .msgs)) m l → isExpiry id (getD (s .msgs .slots) i blankMsg) ≡ true → Held t hand fills (withMsgs s (msgsOf l))
+    out : (i : ℕ) (m : VenueMsg) (l : Row VenueMsg) → Took 16 blankMsg i (msgsRow (s .msgs)) m l → isExpiry id (getD (s .msgs .slots) i blankMsg) ≡ true → Held t unplaced unreported (withMsgs s (msgsOf l))
     out i m l k e =
         record {
           lots = λ x. let z : carriedOn x m ≡ 0 = no-order x id (m .kind) (rw (k .is) e) in omega (arith, k .sums (carriedOn x) refl, h .lots x);
-          calm = h .calm;
-          even = h .even;
+          no-terminal = h .no-terminal;
+          balanced = h .balanced;
           few-orders = h .few-orders;
           few-msgs = omega (arith, k .one-less, k .within);
           few-deliveries = h .few-deliveries;
         }
 
-pub removed-good : {t : VenueOrder → ℕ} {hand fills : Side → ℕ} (id : ℕ) (s : KernelState) → Held t hand fills s → Held t hand fills (removeExpiry id s)
-removed-good {t} {hand} {fills} id s h = removed-held (Held t hand fills) id s h h (λ _ g. g)
+pub removed-good : {t : VenueOrder → ℕ} {unplaced unreported : Side → ℕ} (id : ℕ) (s : KernelState) → Held t unplaced unreported s → Held t unplaced unreported (removeExpiry id s)
+removed-good {t} {unplaced} {unreported} id s h = removed-held (Held t unplaced unreported) id s h h (λ _ g. g)
 
 -- ---- an activation
 book-good : (o : VenueOrder) (s : KernelState) → over o ≡ 0 → Held over (λ x. lotsOn x o) nil s → Good Inv (book o s)
@@ -122,8 +122,8 @@ unfolding book
 book-good o s z h = putting-kept _ _ s λ l a.
     record {
       lots = λ x. omega (arith, a .sums (lotsOn x), h .lots x);
-      calm = omega (arith, a .sums over, h .calm);
-      even = h .even;
+      no-terminal = omega (arith, a .sums over, h .no-terminal);
+      balanced = h .balanced;
       few-orders = a .room;
       few-msgs = h .few-msgs;
       few-deliveries = h .few-deliveries;
@@ -132,16 +132,16 @@ book-good o s z h = putting-kept _ _ s λ l a.
 expiry-good : (expiry : MaybeU64) (id : ℕ) (s : KernelState) → Inv s → Good Inv (scheduleExpiry expiry id s)
 unfolding scheduleExpiry schedule
 expiry-good expiry id s h = word-kept _ (λ at. word-kept _ (λ n. putting-kept _ _ _ (λ l a.
-    record { lots = λ x. omega (arith, a .sums (carriedOn x), h .lots x); calm = h .calm; even = h .even; few-orders = h .few-orders; few-msgs = a .room; few-deliveries = h .few-deliveries }))
+    record { lots = λ x. omega (arith, a .sums (carriedOn x), h .lots x); no-terminal = h .no-terminal; balanced = h .balanced; few-orders = h .few-orders; few-msgs = a .room; few-deliveries = h .few-deliveries }))
     halt-kept) (ran-kept h)
 
 accept-good : (c : Config) (o : VenueOrder) (expiry : MaybeU64) (s t : KernelState) → over o ≡ 0 → Held over (λ x. lotsOn x o) nil t → Good Inv (accept c o expiry s t)
 unfolding accept
-accept-good c o expiry s t z h = then-kept (told-good c _ t h) (λ u g. then-kept (book-good o u z g) (expiry-good expiry (o .id)))
+accept-good c o expiry s t z h = then-kept (plain-report-good c _ t h) (λ u g. then-kept (book-good o u z g) (expiry-good expiry (o .id)))
 
 reject-good : (c : Config) (o : VenueOrder) (s t : KernelState) → Held over (λ x. lotsOn x o) nil t → Good Inv (reject c o s t)
 unfolding reject
-reject-good c o s t h = then-kept (release-good o t h) (λ u g. then-kept (told-good c _ u g) (λ v k. await-kept o v (λ _. k) k))
+reject-good c o s t h = then-kept (release-good o t h) (λ u g. then-kept (plain-report-good c _ u g) (λ v k. await-kept o v (λ _. k) k))
 
 activate-good : (c : Config) (o : VenueOrder) (expiry : MaybeU64) (s : KernelState) → Held over (λ x. lotsOn x o) nil s → Good Inv (activate c o expiry s)
 unfolding activate
@@ -155,7 +155,7 @@ activation-good c o life s t h = pick-kept _ (word-kept _ (λ at. pick-kept _ (a
 booked-good : (c : Config) (s : KernelState) (i : ℕ) (t : KernelState) → Inv t → Good Inv (cancelBooked c s i t)
 unfolding cancelBooked
 booked-good c s i t h =
-    taking-kept (λ o l k. then-kept (release-good o _ (took-order refl i t o l k h)) (λ u g. told-good c _ _ (removed-good (o .id) u g))) (λ _. ran-kept h)
+    taking-kept (λ o l k. then-kept (release-good o _ (took-order refl i t o l k h)) (λ u g. plain-report-good c _ _ (removed-good (o .id) u g))) (λ _. ran-kept h)
 
 pending-good : (c : Config) (s : KernelState) (i : ℕ) (t : KernelState) → Inv t → Good Inv (cancelPending c s i t)
 unfolding cancelPending
@@ -164,12 +164,12 @@ pending-good c s i t h = taking-kept (λ m l k. go _ (m .kind) _ (took-msg i t m
     go : (r : VenueOrder → ReportRec) (k : MsgKind) (u : KernelState) → Held over (λ x. carriedBy x k) nil u
         → Good Inv (onActivation k (λ o. andThen (release o u) (queueDelivery c (r o) fill.None)) (ranTo u))
     go r (Cancel j) u g = ran-kept g
-    go r (Activate o life) u g = then-kept (release-good o u g) (told-good c _)
+    go r (Activate o life) u g = then-kept (release-good o u g) (plain-report-good c _)
     go r (Expire j) u g = ran-kept g
 
 awaiting-good : (c : Config) (s : KernelState) (i : ℕ) (t : KernelState) → Inv t → Good Inv (cancelAwaiting c s i t)
 unfolding cancelAwaiting
-awaiting-good c s i t h = taking-kept (λ o l k. told-good c _ _ h) (λ _. ran-kept h)
+awaiting-good c s i t h = taking-kept (λ o l k. plain-report-good c _ _ h) (λ _. ran-kept h)
 
 cancel-good : (c : Config) (id : ℕ) (s : KernelState) → Inv s → Good Inv (cancel c id s)
 unfolding cancel
@@ -181,7 +181,7 @@ expired-good : (c : Config) (s : KernelState) (i : ℕ) (t : KernelState) → In
 unfolding expireBooked
 expired-good c s i t h = taking-kept
     (λ o l k. then-kept (release-good o _ (took-order refl i t o l k h))
-    (λ u g. raised-then _ u _ (then-kept (told-good c _ u g) (λ v k. await-kept _ v (λ _. k) k))))
+    (λ u g. raised-then _ u _ (then-kept (plain-report-good c _ u g) (λ v k. await-kept _ v (λ _. k) k))))
     (λ _. ran-kept h)
 
 expire-good : (c : Config) (id : ℕ) (s : KernelState) → Inv s → Good Inv (expire c id s)

@@ -13,6 +13,6 @@ pub mod HeldMatching
 pub mod HeldDelivery
 pub mod HeldPhases
 pub mod Conservation
-pub mod Told
+pub mod LastEvent
 pub mod Halts
 pub mod Sample

@@ -42,32 +42,32 @@ module _ {G : Type 0} (plus : G → G → G) (neg : G → G) (nil : G) (assoc : 
 
 -- ---- of positions
 -- venue v and agent a, with b lots bought and s lots sold that are not delivered
-unfoldable pub Even : ℤ → ℤ → ℕ → ℕ → Type 0
-Even v a b s = v +ℤ pos s ≡ a +ℤ pos b
+unfoldable pub Balanced : ℤ → ℤ → ℕ → ℕ → Type 0
+Balanced v a b s = v +ℤ pos s ≡ a +ℤ pos b
 
-pub even-same : (v a : ℤ) (b c s r : ℕ) → b ≡ c → s ≡ r → Even v a b s → Even v a c r
-even-same v a b c s r p q h = subst₂ (λ x y. Even v a x y) p q h
+pub balanced-same : (v a : ℤ) (b c s r : ℕ) → b ≡ c → s ≡ r → Balanced v a b s → Balanced v a c r
+balanced-same v a b c s r p q h = subst₂ (λ x y. Balanced v a x y) p q h
 
-pub even-apart : (v a : ℤ) (b s : ℕ) → Even v a b s → v -ℤ a ≡ pos b -ℤ pos s
-unfolding Even
-even-apart v a b s h = g-apart _+ℤ_ negℤ (pos 0) +ℤ-assoc +ℤ-comm +ℤ-invr +ℤ-idr v a (pos b) (pos s) h
+pub balanced-apart : (v a : ℤ) (b s : ℕ) → Balanced v a b s → v -ℤ a ≡ pos b -ℤ pos s
+unfolding Balanced
+balanced-apart v a b s h = g-apart _+ℤ_ negℤ (pos 0) +ℤ-assoc +ℤ-comm +ℤ-invr +ℤ-idr v a (pos b) (pos s) h
 
-pub even-joined : (v a : ℤ) (b s : ℕ) → v -ℤ a ≡ pos b -ℤ pos s → Even v a b s
-unfolding Even
-even-joined v a b s h = g-joined _+ℤ_ negℤ (pos 0) +ℤ-assoc +ℤ-comm +ℤ-invr +ℤ-idr v a (pos b) (pos s) h
+pub balanced-joined : (v a : ℤ) (b s : ℕ) → v -ℤ a ≡ pos b -ℤ pos s → Balanced v a b s
+unfolding Balanced
+balanced-joined v a b s h = g-joined _+ℤ_ negℤ (pos 0) +ℤ-assoc +ℤ-comm +ℤ-invr +ℤ-idr v a (pos b) (pos s) h
 
-pub even-equal : (v a : ℤ) → Even v a 0 0 → v ≡ a
-unfolding Even
-even-equal v a h = sym (+ℤ-idr v) ∙ h ∙ +ℤ-idr a
+pub balanced-equal : (v a : ℤ) → Balanced v a 0 0 → v ≡ a
+unfolding Balanced
+balanced-equal v a h = sym (+ℤ-idr v) ∙ h ∙ +ℤ-idr a
 
 -- the venue's position moves: a fill is undelivered
-pub even-venue : (d : Side) (n : ℕ) (v a : ℤ) (b s : ℕ) → Even v a b s → Even (movedBy d n v) a (ofSide Buy d n + b) (ofSide Sell d n + s)
-unfolding Even onSide
-even-venue Buy n v a b s h = rw zero-add (g-buy _+ℤ_ negℤ (pos 0) +ℤ-assoc +ℤ-comm +ℤ-invr +ℤ-idr v a (pos b) (pos s) (pos n) h)
-even-venue Sell n v a b s h = rw zero-add (g-sell _+ℤ_ negℤ (pos 0) +ℤ-assoc +ℤ-comm +ℤ-invr +ℤ-idr v a (pos b) (pos s) (pos n) h)
+pub balanced-venue : (d : Side) (n : ℕ) (v a : ℤ) (b s : ℕ) → Balanced v a b s → Balanced (movedBy d n v) a (ofSide Buy d n + b) (ofSide Sell d n + s)
+unfolding Balanced onSide
+balanced-venue Buy n v a b s h = rw zero-add (g-buy _+ℤ_ negℤ (pos 0) +ℤ-assoc +ℤ-comm +ℤ-invr +ℤ-idr v a (pos b) (pos s) (pos n) h)
+balanced-venue Sell n v a b s h = rw zero-add (g-sell _+ℤ_ negℤ (pos 0) +ℤ-assoc +ℤ-comm +ℤ-invr +ℤ-idr v a (pos b) (pos s) (pos n) h)
 
 -- the agent's position moves: a fill is delivered
-pub even-agent : (d : Side) (n : ℕ) (v a : ℤ) (b s : ℕ) → Even v a (ofSide Buy d n + b) (ofSide Sell d n + s) → Even v (movedBy d n a) b s
-unfolding Even onSide
-even-agent Buy n v a b s h = g-bought _+ℤ_ negℤ (pos 0) +ℤ-assoc +ℤ-comm +ℤ-invr +ℤ-idr v a (pos b) (pos s) (pos n) (rw zero-add at h)
-even-agent Sell n v a b s h = g-sold _+ℤ_ negℤ (pos 0) +ℤ-assoc +ℤ-comm +ℤ-invr +ℤ-idr v a (pos b) (pos s) (pos n) (rw zero-add at h)
+pub balanced-agent : (d : Side) (n : ℕ) (v a : ℤ) (b s : ℕ) → Balanced v a (ofSide Buy d n + b) (ofSide Sell d n + s) → Balanced v (movedBy d n a) b s
+unfolding Balanced onSide
+balanced-agent Buy n v a b s h = g-bought _+ℤ_ negℤ (pos 0) +ℤ-assoc +ℤ-comm +ℤ-invr +ℤ-idr v a (pos b) (pos s) (pos n) (rw zero-add at h)
+balanced-agent Sell n v a b s h = g-sold _+ℤ_ negℤ (pos 0) +ℤ-assoc +ℤ-comm +ℤ-invr +ℤ-idr v a (pos b) (pos s) (pos n) (rw zero-add at h)

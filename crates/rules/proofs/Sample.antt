@@ -33,7 +33,7 @@ use Rattle.rules.specs.Run.{andThen, putting, taking, iter}
 use Rattle.rules.specs.Generator.{nextState, output, draw}
 use Rattle.rules.specs.Report.{stamp, delayedTime, delay, delayed, pushDelivery, reported, queueDelivery}
 use Rattle.rules.specs.Messages.{liveLots, released, release, await, awaitMarked, book, schedule, removeExpiry, scheduleExpiry, accept, reject, activate, activation, cancelBooked, cancelPending, cancelAwaiting, cancel, expireBooked, expire, applyNextMsg}
-use Rattle.rules.specs.Matching.{matches, ahead, lotsOf, queueFillLots, gateFilled, filledBy, fillReport, fillCounted, fillEvent, fillAt, fillsOf, fillsAt, matchAt, matchFrom, leave, terminalAt, sweepFrom, sweep, marked, matchRow}
+use Rattle.rules.specs.Matching.{matches, ahead, lotsOf, queueFillLots, gateFilled, filledBy, fillReport, fillCounted, fillEvent, fillAt, fillsOf, fillsAt, matchAt, matchFrom, leave, terminalAt, sweepFrom, sweep, gateMarked, matchRow}
 use Rattle.rules.specs.Delivery.{countFill, countReject, onDelivery, deliverNext, deliverAll, emptyQueues, closeData, endOfData}
 use Rattle.rules.specs.Events.{popObservation, dueBy, nextMsg, nextDelivery, nextObservation, sooner, nextOf, eventTurn, weight, runEvents}
 use Rattle.rules.specs.Phases.{rowAt, queueObservation, matchPhase, beforeMatch, settleRow, settle, nextRow, obsQueued, phaseTurn, turns, phases}
@@ -71,8 +71,8 @@ start = record {
   counters = record { halts = 0; «venue_fills» = 0; «eof_dropped_msgs» = 0; «eof_dropped_obs» = 0 };
 }
 
-abbrev told : ℕ → ℕ → ExecKind → ℕ → ReportRec
-told ts seq k lots = record { «ts_ns» = ts; seq = seq; «order_id» = 1; side = Buy; kind = k; origin = Venue; «cancel_pending» = false; price = 101; qty = 5; last = lots; cum = lots }
+abbrev reportOf : ℕ → ℕ → ExecKind → ℕ → ReportRec
+reportOf ts seq k lots = record { «ts_ns» = ts; seq = seq; «order_id» = 1; side = Buy; kind = k; origin = Venue; «cancel_pending» = false; price = 101; qty = 5; last = lots; cum = lots }
 
 -- advance, pass, advance
 third : Answer
@@ -83,11 +83,11 @@ events = advance config rows start .events ++ third .events
 
 sample :
     (events
-    ≡ Report (told 10 0 exec.Accepted 0) ∷ Fill (record { «ts_ns» = 20; «exec_id» = 0; «order_id» = 1; side = Buy; price = 101; qty = 5 })
-    ∷ Report (told 20 1 exec.Fill 5) ∷ Observed 0 20 ∷ RowEnd 0 20 ∷ Delivered (told 10 0 exec.Accepted 0) ∷ Delivered (told 20 1 exec.Fill 5)
+    ≡ Report (reportOf 10 0 exec.Accepted 0) ∷ Fill (record { «ts_ns» = 20; «exec_id» = 0; «order_id» = 1; side = Buy; price = 101; qty = 5 })
+    ∷ Report (reportOf 20 1 exec.Fill 5) ∷ Observed 0 20 ∷ RowEnd 0 20 ∷ Delivered (reportOf 10 0 exec.Accepted 0) ∷ Delivered (reportOf 20 1 exec.Fill 5)
     ∷ EndOfData 0 0 ∷ [])
     × (third .did ≡ ends [])
-unfolding third events pick fits fitting onWord ranged raisedBy loweredBy onMoved onSome live insertAt removeAt before foundIn placed without putAt takeAt entryAt storeAt emptied total onSide andThen putting taking iter nextState output draw stamp delayedTime delay delayed pushDelivery reported queueDelivery released release await awaitMarked book schedule removeExpiry scheduleExpiry accept reject activate activation cancelBooked cancelPending cancelAwaiting cancel expireBooked expire applyNextMsg matches ahead lotsOf queueFillLots gateFilled filledBy fillReport fillCounted fillEvent fillAt fillsOf fillsAt matchAt matchFrom leave terminalAt sweepFrom sweep marked matchRow countFill countReject onDelivery deliverNext deliverAll emptyQueues closeData endOfData popObservation dueBy nextMsg nextDelivery nextObservation sooner nextOf eventTurn weight runEvents rowAt queueObservation matchPhase beforeMatch settleRow settle nextRow obsQueued phaseTurn turns phases answer countsFit advance pass
+unfolding third events pick fits fitting onWord ranged raisedBy loweredBy onMoved onSome live insertAt removeAt before foundIn placed without putAt takeAt entryAt storeAt emptied total onSide andThen putting taking iter nextState output draw stamp delayedTime delay delayed pushDelivery reported queueDelivery released release await awaitMarked book schedule removeExpiry scheduleExpiry accept reject activate activation cancelBooked cancelPending cancelAwaiting cancel expireBooked expire applyNextMsg matches ahead lotsOf queueFillLots gateFilled filledBy fillReport fillCounted fillEvent fillAt fillsOf fillsAt matchAt matchFrom leave terminalAt sweepFrom sweep gateMarked matchRow countFill countReject onDelivery deliverNext deliverAll emptyQueues closeData endOfData popObservation dueBy nextMsg nextDelivery nextObservation sooner nextOf eventTurn weight runEvents rowAt queueObservation matchPhase beforeMatch settleRow settle nextRow obsQueued phaseTurn turns phases answer countsFit advance pass
 sample = (refl, refl)
 
 -- ---- the start has the three properties

@@ -6,6 +6,7 @@ use lib.Dec.{leb, eqb}
 use lib.ListN.{length}
 use Rattle.numbers.specs.Choice.{pick}
 use Rattle.numbers.specs.Words.{fitting, onWord}
+use Rattle.book.specs.Capacities.{ordersCapacity, msgsCapacity, deliveriesCapacity, observedCapacity, accountCapacity}
 use Rattle.book.specs.With.{withControl, withCounters, controlPhase, controlStep, controlStatus, countersHalts}
 use Rattle.book.specs.declared.VenueMsg.{VenueMsg}
 use Rattle.book.specs.declared.config.Config.{Config}
@@ -43,7 +44,7 @@ refuse r s = record { did = refused r; state = s; events = [] }
 abbrev pub halted : HaltReason → KernelState → KernelState
 halted h s = withCounters (withControl s (controlStatus (controlPhase (s .control) Terminal) (status.Halted h))) (countersHalts (s .counters) 1)
 
--- a halt is told behind all else; every other end is told already
+-- a halt's event stands behind all else; every other end has raised its own
 abbrev pub answerOn : Outcome → KernelState → List KernelEvent → Answer
 answerOn ran s es = record { did = stays; state = s; events = es }
 answerOn left s es = record { did = stays; state = s; events = es }
@@ -57,8 +58,8 @@ answer r = answerOn (r .outcome) (r .state) (r .events)
 -- "both entries, next: a list count above capacity: 102"
 unfoldable pub countsFit : KernelState → Bool
 countsFit s =
-    leb (s .orders .count) 8 && leb (s .msgs .count) 16 && leb (s .awaiting .count) 8
-    && leb (s .deliveries .count) 24 && leb (s .observed .count) 16 && leb (s .account .count) 8
+    leb (s .orders .count) ordersCapacity && leb (s .msgs .count) msgsCapacity && leb (s .awaiting .count) ordersCapacity
+    && leb (s .deliveries .count) deliveriesCapacity && leb (s .observed .count) observedCapacity && leb (s .account .count) accountCapacity
 
 -- "advance entry: row words not a multiple of 5: 101"
 unfoldable pub advance : Config → List ℕ → KernelState → Answer
@@ -104,5 +105,5 @@ pub record Result : Type 0 where
   pub count : ℕ
 
 -- an answer beside the log that the caller lent
-abbrev pub shown : List ℕ → Answer → Result
-shown log a = record { did = a .did; state = a .state; log = written log (a .events); count = length (a .events) }
+abbrev pub returned : List ℕ → Answer → Result
+returned log a = record { did = a .did; state = a .state; log = written log (a .events); count = length (a .events) }

@@ -19,7 +19,7 @@ use Rattle.book.specs.declared.VenueOrder.{VenueOrder}
 use Rattle.book.specs.declared.config.Config.{Config}
 use Rattle.book.specs.declared.state.KernelState.{KernelState}
 use Rattle.rules.specs.Messages.{liveLots}
-use Rattle.rules.specs.Calls.{Did, refused, stays, halts, ends, advance, pass, Result, shown}
+use Rattle.rules.specs.Calls.{Did, refused, stays, halts, ends, advance, pass, Result, returned}
 
 -- ---- "Sums are whole numbers over the slots below the counts"
 -- "booked is being in orders"
@@ -90,8 +90,8 @@ pub data Call : Type 0 where
 
 -- what a call gives, as the contracts of `advance` and `pass` say it
 abbrev pub result : Call → KernelState → Result
-result (advances c rows log) s = shown log (advance c rows s)
-result passes s = shown [] (pass s)
+result (advances c rows log) s = returned log (advance c rows s)
+result passes s = returned [] (pass s)
 
 -- P after each of these calls
 unfoldable pub AfterEach : (KernelState → Type 0) → List Call → KernelState → Type 0

@@ -6,6 +6,7 @@ use Rattle.numbers.specs.Choice.{pick}
 use Rattle.numbers.specs.Words.{fitting, onWord}
 use Rattle.numbers.specs.Position.{onMoved}
 use Rattle.lists.specs.Lists.{onSome, live, foundIn, takeAt, popped, storeAt, emptied}
+use Rattle.book.specs.Capacities.{msgsCapacity, deliveriesCapacity, observedCapacity, accountCapacity}
 use Rattle.book.specs.Entries.{blankMsg, blankDelivery, blankObs, blankOpen, isOpenOf}
 use Rattle.book.specs.Rows.{msgsRow, msgsOf, deliveriesRow, deliveriesOf, observedRow, observedOf, accountRow, accountOf}
 use Rattle.book.specs.With.{withControl, withMsgs, withDeliveries, withObserved, withAgent, withAccount, withCounters, controlPhase, controlStatus, agentPos, agentDeliveredFills, agentDeliveredLocalRejects, countersEofDroppedMsgs, countersEofDroppedObs}
@@ -92,19 +93,19 @@ effect exec.Fill w pending = pick pending awaits closes
 -- the account with the entry at place i so treated
 abbrev pub affected : Effect → ℕ → ℕ → AgentAccount → AgentAccount
 affected stands id i a = a
-affected closes id i a = accountOf (takeAt 8 blankOpen i (accountRow a) .list)
-affected awaits id i a = accountOf (storeAt 8 i (record { «order_id» = id; «awaiting_cancel_outcome» = true }) (accountRow a) .list)
+affected closes id i a = accountOf (takeAt accountCapacity blankOpen i (accountRow a) .list)
+affected awaits id i a = accountOf (storeAt accountCapacity i (record { «order_id» = id; «awaiting_cancel_outcome» = true }) (accountRow a) .list)
 
 -- "then turns to the first account entry of that order"
 unfoldable pub onDelivery : ReportRec → AgentAccount → AgentAccount
 onDelivery r a =
-    onSome (foundIn (isOpenOf (r .«order_id»)) (live 8 (accountRow a)))
+    onSome (foundIn (isOpenOf (r .«order_id»)) (live accountCapacity (accountRow a)))
     (λ i. affected (effect (r .kind) (r .origin) (r .«cancel_pending»)) (r .«order_id») i a)
     a
 
 -- ---- "Delivery writes delivered, ..": d is no more in the list
-abbrev pub handed : Delivery → KernelState → Run
-handed d s =
+abbrev pub deliver : Delivery → KernelState → Run
+deliver d s =
     andThen (raised (Delivered (d .report)) s) λ t.
     andThen (moveAgent (d .fill) t) λ u.
     andThen (countReject (d .report) u) λ v.
@@ -112,7 +113,7 @@ handed d s =
 
 -- the first delivery, if there is one
 unfoldable pub deliverNext : KernelState → Run
-deliverNext s = taking (popped 24 blankDelivery (deliveriesRow (s .deliveries))) (λ d l. handed d (withDeliveries s (deliveriesOf l))) (ranTo s)
+deliverNext s = taking (popped deliveriesCapacity blankDelivery (deliveriesRow (s .deliveries))) (λ d l. deliver d (withDeliveries s (deliveriesOf l))) (ranTo s)
 
 -- ---- "End of data delivers all, writes each dropped message, empties messages and observations, adds to the two counters, sets its status and Terminal, writes event 6; the clock stands."
 -- n deliveries
@@ -132,12 +133,12 @@ droppedEvent m = droppedBy (m .kind)
 
 -- "empties messages and observations"
 unfoldable pub emptyQueues : KernelState → KernelState
-emptyQueues s = withObserved (withMsgs s (msgsOf (emptied 16 blankMsg (msgsRow (s .msgs))))) (observedOf (emptied 16 blankObs (observedRow (s .observed))))
+emptyQueues s = withObserved (withMsgs s (msgsOf (emptied msgsCapacity blankMsg (msgsRow (s .msgs))))) (observedOf (emptied observedCapacity blankObs (observedRow (s .observed))))
 
 -- s with no delivery left, and its counts of messages and observations; the counters are tested in order, the lists empty already
 unfoldable pub closeData : KernelState → Run
 closeData s =
-    let dropped : List VenueMsg = live 16 (msgsRow (s .msgs)) in
+    let dropped : List VenueMsg = live msgsCapacity (msgsRow (s .msgs)) in
     let t : KernelState = emptyQueues s in
     after (map droppedEvent dropped)
     (onWord (fitting (t .counters .«eof_dropped_msgs» + s .msgs .count))

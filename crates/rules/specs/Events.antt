@@ -5,6 +5,7 @@ use lib.Dec.{leb}
 use Rattle.numbers.specs.Choice.{pick}
 use Rattle.numbers.specs.declared.MaybeU64.the-variants as u64
 use Rattle.lists.specs.Lists.{onSome, below, popped, entryAt, total}
+use Rattle.book.specs.Capacities.{msgsCapacity, deliveriesCapacity, observedCapacity}
 use Rattle.book.specs.Entries.{blankMsg, blankDelivery, blankObs}
 use Rattle.book.specs.Rows.{msgsRow, deliveriesRow, observedRow, observedOf}
 use Rattle.book.specs.With.{withControl, withClock, withObserved, withAgent, controlPhase, controlResume, controlStatus, clockNowNs, agentLastObsRow}
@@ -45,7 +46,7 @@ truncates s = withControl s (truncated (s .control))
 -- "At `s_max` the observation is removed unseen."
 unfoldable pub popObservation : Config → KernelState → Run
 popObservation c s =
-    taking (popped 16 blankObs (observedRow (s .observed)))
+    taking (popped observedCapacity blankObs (observedRow (s .observed)))
     (λ e l. let t : KernelState = withObserved s (observedOf l) in
     pick (leb (c .«s_max») (s .control .step))
     (record { outcome = left; state = truncates t; events = [] })
@@ -70,15 +71,15 @@ dueBy limit k t = pick (leb t limit) (next k t) nothing
 
 -- the first entry of each list, if it is due
 unfoldable pub nextMsg : ℕ → KernelState → Next
-nextMsg limit s = onSome (entryAt 16 blankMsg 0 (msgsRow (s .msgs))) (λ m. dueBy limit venue (m .«eff_ns»)) nothing
+nextMsg limit s = onSome (entryAt msgsCapacity blankMsg 0 (msgsRow (s .msgs))) (λ m. dueBy limit venue (m .«eff_ns»)) nothing
 
 -- the same of deliveries
 unfoldable pub nextDelivery : ℕ → KernelState → Next
-nextDelivery limit s = onSome (entryAt 24 blankDelivery 0 (deliveriesRow (s .deliveries))) (λ d. dueBy limit delivery (d .«at_ns»)) nothing
+nextDelivery limit s = onSome (entryAt deliveriesCapacity blankDelivery 0 (deliveriesRow (s .deliveries))) (λ d. dueBy limit delivery (d .«at_ns»)) nothing
 
 -- the same of observations
 unfoldable pub nextObservation : ℕ → KernelState → Next
-nextObservation limit s = onSome (entryAt 16 blankObs 0 (observedRow (s .observed))) (λ e. dueBy limit observation (e .«ready_ns»)) nothing
+nextObservation limit s = onSome (entryAt observedCapacity blankObs 0 (observedRow (s .observed))) (λ e. dueBy limit observation (e .«ready_ns»)) nothing
 
 -- the earlier of two, at equal times the first
 unfoldable pub sooner : Next → Next → Next

@@ -18,13 +18,13 @@ use Rattle.rules.specs.Matching.{matches, ahead, lotsOf, queueFillLots, 
 
 -- a question, and what document 01 answers: the lots of a fill (none is the halt 7), a draw, or no match
 pub data Example : Type 0 where
-  fills : FillMode → KernelTick → VenueOrder → MaybeU64 → Example
+  gives : FillMode → KernelTick → VenueOrder → MaybeU64 → Example
   draws : ℕ → ℕ → Draw → Example
   misses : KernelTick → VenueOrder → Example
 
 -- the definition gives that answer
 unfoldable pub Holds : Example → Type 0
-Holds (fills mode row o lots) = fillLots mode row o ≡ lots
+Holds (gives mode row o lots) = fillLots mode row o ≡ lots
 Holds (draws rng most d) = draw rng most ≡ d
 Holds (misses row o) = matches row o ≡ false
 
@@ -45,17 +45,17 @@ row ts ask lots = record { «ts_ns» = ts; bid = 99; «bid_lots» = 1; ask = ask
 unfoldable pub examples : List Example
 examples =
     -- Q1 to Q3
-    fills (QueuePosition 3 2 0) (row 4999999 101 6) (buy 10 0) (Some 0)
-    ∷ fills (QueuePosition 3 2 0) (row 4999999 101 5) (buy 10 0) (Some 1)
-    ∷ fills (QueuePosition 3 2 0) (row 4999999 100 6) (buy 10 0) (Some 6)
+    gives (QueuePosition 3 2 0) (row 4999999 101 6) (buy 10 0) (Some 0)
+    ∷ gives (QueuePosition 3 2 0) (row 4999999 101 5) (buy 10 0) (Some 1)
+    ∷ gives (QueuePosition 3 2 0) (row 4999999 100 6) (buy 10 0) (Some 6)
     -- Q4 to Q9, "as Q3 but"
-    ∷ fills (QueuePosition 3 2 0) (row 4999999 100 6) (buy 6 0) (Some 6)
-    ∷ fills (QueuePosition 3 2 0) (row 4999999 100 6) (buy 10 6) (Some 0)
-    ∷ fills (QueuePosition 3 2 0) (row 3999999 100 6) (buy 10 0) (Some 4)
-    ∷ fills (QueuePosition 3 2 5) (row 4999999 100 6) (buy 10 0) (Some 0)
-    ∷ fills (QueuePosition 3 0 5) (row 4999999 100 6) (buy 10 0) (Some 0)
-    ∷ fills (QueuePosition 3 0 0) (row 4999999 100 6) (buy 10 0) None
-    ∷ fills (QueuePosition (2 ^ 64 - 1) (2 ^ 64 - 1) 0) (row 4999999 100 6) (buy 10 0) (Some 4)
+    ∷ gives (QueuePosition 3 2 0) (row 4999999 100 6) (buy 6 0) (Some 6)
+    ∷ gives (QueuePosition 3 2 0) (row 4999999 100 6) (buy 10 6) (Some 0)
+    ∷ gives (QueuePosition 3 2 0) (row 3999999 100 6) (buy 10 0) (Some 4)
+    ∷ gives (QueuePosition 3 2 5) (row 4999999 100 6) (buy 10 0) (Some 0)
+    ∷ gives (QueuePosition 3 0 5) (row 4999999 100 6) (buy 10 0) (Some 0)
+    ∷ gives (QueuePosition 3 0 0) (row 4999999 100 6) (buy 10 0) None
+    ∷ gives (QueuePosition (2 ^ 64 - 1) (2 ^ 64 - 1) 0) (row 4999999 100 6) (buy 10 0) (Some 4)
     -- G1, G2, T1
     ∷ draws 1 1 (record { rng = 33554433; value = 1 })
     ∷ draws 1 0 (record { rng = 1; value = 0 })

@@ -11,6 +11,7 @@ use Rattle.numbers.specs.declared.MaybeU64.the-variants as u64
 use Rattle.numbers.specs.declared.position.Moved.{Moved}
 use Rattle.numbers.specs.declared.position.Position.{Position}
 use Rattle.lists.specs.Lists.{onSome, entryAt, takeAt, storeAt}
+use Rattle.book.specs.Capacities.{ordersCapacity}
 use Rattle.book.specs.Entries.{blankOrder, onSide, remaining, isActive, isTerminal}
 use Rattle.book.specs.Rows.{ordersRow, ordersOf}
 use Rattle.book.specs.With.{withSeqs, withOrders, withGate, withCounters, seqsNextExecId, gateVenuePos, gateMark2, countersVenueFills}
@@ -132,7 +133,7 @@ fillEvent o n s =
 unfoldable pub fillAt : Config → ℕ → VenueOrder → ℕ → KernelState → Run
 fillAt c i o n s =
     andThen (fillEvent o n s) λ t.
-    queueDelivery c (fillReport s o n) (fill.Some (fillRecord s o n)) (withOrders t (ordersOf (storeAt 8 i (filledBy n o) (ordersRow (t .orders)) .list)))
+    queueDelivery c (fillReport s o n) (fill.Some (fillRecord s o n)) (withOrders t (ordersOf (storeAt ordersCapacity i (filledBy n o) (ordersRow (t .orders)) .list)))
 
 -- ---- the pass over the orders
 -- what a row fills at a place: nothing, so many lots of the order there, or the queue rule fails
@@ -150,7 +151,7 @@ fillsOf mode row o =
 
 -- no order at the place: nothing
 unfoldable pub fillsAt : FillMode → KernelTick → ℕ → Orders → Fills
-fillsAt mode row i os = onSome (entryAt 8 blankOrder i (ordersRow os)) (fillsOf mode row) no-fill
+fillsAt mode row i os = onSome (entryAt ordersCapacity blankOrder i (ordersRow os)) (fillsOf mode row) no-fill
 
 -- "queue rule, after the minimum: `per_ms` 0: 7"
 abbrev pub filling : Config → ℕ → KernelState → Fills → Run
@@ -170,13 +171,13 @@ matchFrom c row (suc k) i s = andThen (matchAt c row i s) (matchFrom c row k (i 
 -- ---- "Terminal orders (Filled, Canceled, Rejected) leave after the last one, with their expiry, to awaiting if marked."
 unfoldable pub leave : ℕ → KernelState → Run
 leave i s =
-    taking (takeAt 8 blankOrder i (ordersRow (s .orders)))
+    taking (takeAt ordersCapacity blankOrder i (ordersRow (s .orders)))
     (λ o l. awaitMarked o (removeExpiry (o .id) (withOrders s (ordersOf l))))
     (ranTo s)
 
 -- whether a terminal order stands at place i
 unfoldable pub terminalAt : ℕ → KernelState → Bool
-terminalAt i s = onSome (entryAt 8 blankOrder i (ordersRow (s .orders))) (λ o. isTerminal (o .state)) false
+terminalAt i s = onSome (entryAt ordersCapacity blankOrder i (ordersRow (s .orders))) (λ o. isTerminal (o .state)) false
 
 -- k looks from place i on: where one left, the next stands at the same place
 unfoldable pub sweepFrom : ℕ → ℕ → KernelState → Run
@@ -190,12 +191,12 @@ unfoldable pub sweep : KernelState → Run
 sweep s = sweepFrom (s .orders .count) 0 s
 
 -- "`mark2` becomes bid + ask if above 0."
-unfoldable pub marked : ℕ → GateState → GateState
-marked mid2 g = pick (eqb mid2 0) g (gateMark2 g (u64.Some mid2))
+unfoldable pub gateMarked : ℕ → GateState → GateState
+gateMarked mid2 g = pick (eqb mid2 0) g (gateMark2 g (u64.Some mid2))
 
 -- "match, row end: bid + ask past 64 bits: 5"
 unfoldable pub matchRow : Config → KernelTick → KernelState → Run
 matchRow c row s =
     onWord (fitting (row .bid + row .ask))
-    (λ mid2. andThen (matchFrom c row (s .orders .count) 0 (withGate s (marked mid2 (s .gate)))) sweep)
+    (λ mid2. andThen (matchFrom c row (s .orders .count) 0 (withGate s (gateMarked mid2 (s .gate)))) sweep)
     (haltAt LedgerOverflow s)

@@ -8,6 +8,7 @@ use Rattle.numbers.specs.Words.{fits, fitting, onWord}
 use Rattle.numbers.specs.declared.MaybeU64.{MaybeU64}
 use Rattle.numbers.specs.declared.MaybeU64.the-variants as u64
 use Rattle.lists.specs.Lists.{onSome, live, foundIn, pushed, putBefore, takeAt, popped}
+use Rattle.book.specs.Capacities.{ordersCapacity, msgsCapacity}
 use Rattle.book.specs.Entries.{blankOrder, blankMsg, onSide, remaining, inState, isOpen, hasId, idAbove, isLater, isActivation, isExpiry}
 use Rattle.book.specs.Rows.{ordersRow, ordersOf, msgsRow, msgsOf}
 use Rattle.book.specs.With.{withSeqs, withOrders, withMsgs, withAwaiting, withGate, seqsNextMsgSeq, gateLiveBuyLots, gateLiveSellLots}
@@ -47,7 +48,7 @@ release o s =
 -- ---- the lists of orders and messages
 -- "Awaiting is ordered by id, an equal id after"
 unfoldable pub await : VenueOrder → KernelState → Run
-await o s = putting (putBefore 8 (idAbove (o .id)) o (ordersRow (s .awaiting))) (λ l. withAwaiting s (ordersOf l)) s
+await o s = putting (putBefore ordersCapacity (idAbove (o .id)) o (ordersRow (s .awaiting))) (λ l. withAwaiting s (ordersOf l)) s
 
 -- "to awaiting if a cancel is in flight (marked)"
 unfoldable pub awaitMarked : VenueOrder → KernelState → Run
@@ -55,7 +56,7 @@ awaitMarked o s = pick (o .«cancel_inflight») (await o s) (ranTo s)
 
 -- booked: last among the orders
 unfoldable pub book : VenueOrder → KernelState → Run
-book o s = putting (pushed 8 o (ordersRow (s .orders))) (λ l. withOrders s (ordersOf l)) s
+book o s = putting (pushed ordersCapacity o (ordersRow (s .orders))) (λ l. withOrders s (ordersOf l)) s
 
 -- "a new one takes `next_msg_seq`, which rises, and goes before the first with a greater pair, else last"
 unfoldable pub schedule : ℕ → MsgKind → KernelState → Run
@@ -63,14 +64,14 @@ schedule at k s =
     let seq : ℕ = s .seqs .«next_msg_seq» in
     onWord (fitting (seq + 1))
     (λ n. let t : KernelState = withSeqs s (seqsNextMsgSeq (s .seqs) n) in
-    putting (putBefore 16 (isLater at seq) (record { «eff_ns» = at; seq = seq; kind = k }) (msgsRow (t .msgs))) (λ l. withMsgs t (msgsOf l)) t)
+    putting (putBefore msgsCapacity (isLater at seq) (record { «eff_ns» = at; seq = seq; kind = k }) (msgsRow (t .msgs))) (λ l. withMsgs t (msgsOf l)) t)
     (haltAt CounterOverflow s)
 
 -- without the first expiry of that order
 unfoldable pub removeExpiry : ℕ → KernelState → KernelState
 removeExpiry id s =
-    onSome (foundIn (isExpiry id) (live 16 (msgsRow (s .msgs))))
-    (λ i. withMsgs s (msgsOf (takeAt 16 blankMsg i (msgsRow (s .msgs)) .list)))
+    onSome (foundIn (isExpiry id) (live msgsCapacity (msgsRow (s .msgs))))
+    (λ i. withMsgs s (msgsOf (takeAt msgsCapacity blankMsg i (msgsRow (s .msgs)) .list)))
     s
 
 -- ---- "Activate": s is the state at its stamp, t after it
@@ -115,7 +116,7 @@ activation c o life s t =
 -- "Booked, non-terminal: removed, released, its expiry removed, Canceled."
 unfoldable pub cancelBooked : Config → KernelState → ℕ → KernelState → Run
 cancelBooked c s i t =
-    taking (takeAt 8 blankOrder i (ordersRow (t .orders)))
+    taking (takeAt ordersCapacity blankOrder i (ordersRow (t .orders)))
     (λ o l. andThen (release o (withOrders t (ordersOf l))) λ u.
     queueDelivery c (reportOn s o exec.Canceled false 0) fill.None (removeExpiry (o .id) u))
     (ranTo t)
@@ -129,7 +130,7 @@ onActivation (Expire i) k z = z
 -- "Else a pending activation: the same without expiry."
 unfoldable pub cancelPending : Config → KernelState → ℕ → KernelState → Run
 cancelPending c s i t =
-    taking (takeAt 16 blankMsg i (msgsRow (t .msgs)))
+    taking (takeAt msgsCapacity blankMsg i (msgsRow (t .msgs)))
     (λ m l. let u : KernelState = withMsgs t (msgsOf l) in
     onActivation (m .kind)
     (λ o. andThen (release o u) (queueDelivery c (reportOn s o exec.Canceled false 0) fill.None))
@@ -139,7 +140,7 @@ cancelPending c s i t =
 -- "Else awaiting: removed, CancelRejected."
 unfoldable pub cancelAwaiting : Config → KernelState → ℕ → KernelState → Run
 cancelAwaiting c s i t =
-    taking (takeAt 8 blankOrder i (ordersRow (t .awaiting)))
+    taking (takeAt ordersCapacity blankOrder i (ordersRow (t .awaiting)))
     (λ o l. queueDelivery c (reportOn s o exec.CancelRejected false 0) fill.None (withAwaiting t (ordersOf l)))
     (ranTo t)
 
@@ -147,15 +148,15 @@ cancelAwaiting c s i t =
 unfoldable pub cancel : Config → ℕ → KernelState → Run
 cancel c id s =
     andThen (stamp s) λ t.
-    onSome (foundIn (isOpen id) (live 8 (ordersRow (t .orders)))) (λ i. cancelBooked c s i t)
-    (onSome (foundIn (isActivation id) (live 16 (msgsRow (t .msgs)))) (λ i. cancelPending c s i t)
-    (onSome (foundIn (hasId id) (live 8 (ordersRow (t .awaiting)))) (λ i. cancelAwaiting c s i t)
+    onSome (foundIn (isOpen id) (live ordersCapacity (ordersRow (t .orders)))) (λ i. cancelBooked c s i t)
+    (onSome (foundIn (isActivation id) (live msgsCapacity (msgsRow (t .msgs)))) (λ i. cancelPending c s i t)
+    (onSome (foundIn (hasId id) (live ordersCapacity (ordersRow (t .awaiting)))) (λ i. cancelAwaiting c s i t)
     (ranTo t)))
 
 -- ---- "Expire": "else stamped, removed, released, expired event, Canceled report, awaiting if marked"; s is the state at its stamp, t after it
 unfoldable pub expireBooked : Config → KernelState → ℕ → KernelState → Run
 expireBooked c s i t =
-    taking (takeAt 8 blankOrder i (ordersRow (t .orders)))
+    taking (takeAt ordersCapacity blankOrder i (ordersRow (t .orders)))
     (λ o l. andThen (release o (withOrders t (ordersOf l))) λ u.
     andThen (raised (Expired (o .id) (u .clock .«now_ns»)) u) λ v.
     andThen (queueDelivery c (reportOn s o exec.Canceled (o .«cancel_inflight») 0) fill.None v)
@@ -165,7 +166,7 @@ expireBooked c s i t =
 -- "nothing if not booked and non-terminal"
 unfoldable pub expire : Config → ℕ → KernelState → Run
 expire c id s =
-    onSome (foundIn (isOpen id) (live 8 (ordersRow (s .orders))))
+    onSome (foundIn (isOpen id) (live ordersCapacity (ordersRow (s .orders))))
     (λ i. andThen (stamp s) (expireBooked c s i))
     (ranTo s)
 
@@ -178,6 +179,6 @@ acts c (Expire id) s t = expire c id t
 -- "A list with no first entry ends that step with nothing done."
 unfoldable pub applyNextMsg : Config → KernelState → Run
 applyNextMsg c s =
-    taking (popped 16 blankMsg (msgsRow (s .msgs)))
+    taking (popped msgsCapacity blankMsg (msgsRow (s .msgs)))
     (λ m l. acts c (m .kind) s (withMsgs s (msgsOf l)))
     (ranTo s)

@@ -8,6 +8,7 @@ use Rattle.numbers.specs.Choice.{pick}
 use Rattle.numbers.specs.Words.{fits, onWord}
 use Rattle.numbers.specs.declared.MaybeU64.the-variants as u64
 use Rattle.lists.specs.Lists.{onSome, pushed}
+use Rattle.book.specs.Capacities.{observedCapacity}
 use Rattle.book.specs.Rows.{observedRow, observedOf}
 use Rattle.book.specs.With.{withControl, withClock, withObserved, controlPhase, controlCursor, controlCurRow, clockLastObservedNs}
 use Rattle.book.specs.declared.config.Config.{Config}
@@ -37,7 +38,7 @@ queueObservation c i row s =
     delayed c (row .«ts_ns») (c .«observation_q») s λ at t.
     let ready : ℕ = max at (t .clock .«last_observed_ns») in
     let u : KernelState = withClock t (clockLastObservedNs (t .clock) ready) in
-    putting (pushed 16 (record { «ready_ns» = ready; row = i }) (observedRow (u .observed)))
+    putting (pushed observedCapacity (record { «ready_ns» = ready; row = i }) (observedRow (u .observed)))
     (λ l. withControl (withObserved u (observedOf l)) (controlPhase (u .control) ObsQueued))
     u
 

@@ -5,6 +5,7 @@ use Rattle.numbers.specs.Words.{fitting, onWord}
 use Rattle.numbers.specs.declared.MaybeU64.{MaybeU64}
 use Rattle.numbers.specs.declared.MaybeU64.the-variants.{None}
 use Rattle.lists.specs.Lists.{pushed}
+use Rattle.book.specs.Capacities.{deliveriesCapacity}
 use Rattle.book.specs.Rows.{deliveriesRow, deliveriesOf}
 use Rattle.book.specs.With.{withSeqs, withClock, withRngLatency, withDeliveries, seqsStampSeq, clockLastDeliveryNs}
 use Rattle.book.specs.declared.Delivery.{Delivery}
@@ -54,7 +55,7 @@ delayed c from base s k =
 
 -- a delivery goes behind the others
 unfoldable pub pushDelivery : Delivery → KernelState → Run
-pushDelivery d s = putting (pushed 24 d (deliveriesRow (s .deliveries))) (λ l. withDeliveries s (deliveriesOf l)) s
+pushDelivery d s = putting (pushed deliveriesCapacity d (deliveriesRow (s .deliveries))) (λ l. withDeliveries s (deliveriesOf l)) s
 
 -- "Delivery time is its ts plus the delay from `ack_q`, never below `last_delivery_ns`, which takes it. The report event precedes the push."
 unfoldable pub reported : Config → ReportRec → KernelState → Run

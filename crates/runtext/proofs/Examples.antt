@@ -19,8 +19,8 @@ use Rattle.book.specs.declared.config.KernelTick.{KernelTick}
 use Rattle.rules.proofs.Sample.{config, start, rows}
 use Rattle.text.specs.Bytes.{bytes}
 use Rattle.text.specs.Fields.{parted, same, areDigits, value, number}
-use Rattle.runtext.specs.Lines.{sideOf, onSideField, configLine, nowLine, queueLine, fillLine, orderLine, cancelLine, rowLine, lineOf}
-use Rattle.runtext.specs.Read.{blankReading, takeConfig, takeFill, isMessageDue, reserved, onReserved, onPut, takeOrder, marked, markedIn, takeCancel, takeRow, takeLine, seeded, startState, scriptOf, shown, closing, readParts, Read, readText}
+use Rattle.runtext.specs.Lines.{sideOf, onSideField, configLine, nowLine, queueLine, fillModeLine, orderLine, cancelLine, rowLine, lineOf}
+use Rattle.runtext.specs.Read.{blankReading, takeConfig, takeFill, isMessageDue, reserved, onReserved, onPut, takeOrder, marked, markedIn, takeCancel, takeRow, takeLine, seeded, startState, scriptOf, readWith, closing, readParts, Read, readText}
 use Rattle.runtext.specs.declared.read.Reading.{Reading}
 
 -- with room for the words of one row
@@ -61,7 +61,7 @@ tick = record { «ts_ns» = 1; bid = 1; «bid_lots» = 1; ask = 1; «ask_lots» 
 
 examples :
     -- document 01's sample: the configuration, the state and the row with which `rules` runs it
-    (read "c 1000 0 1 0 7 9\nf now\no 10 1 B 101 5 0\nr 20 99 4 101 6\n" ≡ shown (record { bad = None; cfg = config; state = start; rows = 1 }) rows)
+    (read "c 1000 0 1 0 7 9\nf now\no 10 1 B 101 5 0\nr 20 99 4 101 6\n" ≡ readWith (record { bad = None; cfg = config; state = start; rows = 1 }) rows)
     -- the first two lines: absent, not ended, of too few fields, with a space too many, in another order
     × (map badOf ("" ∷ "c 1 1 1 1 1 1\n" ∷ "c 1 1 1 1 1 1\nf now" ∷ "c 1 1 1 1 1\nf now\n" ∷ "c 1 1 1 1 1  1\nf now\n" ∷ "f now\nc 1 1 1 1 1 1\n" ∷ "c 1 1 1 1 1 1\nf queue 1 2\n" ∷ [])
     ≡ Some 1 ∷ Some 2 ∷ Some 2 ∷ Some 1 ∷ Some 1 ∷ Some 1 ∷ Some 2 ∷ [])
@@ -77,7 +77,7 @@ examples :
     ≡ record { eff = 3; seq = 2; mark = false } ∷ record { eff = 5; seq = 1; mark = false } ∷ record { eff = 9; seq = 0; mark = true } ∷ [])
     -- the seed 0
     × (read (from "") .script .state .«rng_latency» ≡ 0x9E3779B97F4A7C15)
-unfolding badOf times from isMarked brief full tick pick fits fitting onWord live insertAt before placed putAt onSide parted same areDigits value number sideOf onSideField configLine nowLine queueLine fillLine orderLine cancelLine rowLine lineOf takeConfig takeFill isMessageDue reserved onReserved onPut takeOrder marked markedIn takeCancel takeRow takeLine seeded startState scriptOf closing readParts readText
+unfolding badOf times from isMarked brief full tick pick fits fitting onWord live insertAt before placed putAt onSide parted same areDigits value number sideOf onSideField configLine nowLine queueLine fillModeLine orderLine cancelLine rowLine lineOf takeConfig takeFill isMessageDue reserved onReserved onPut takeOrder marked markedIn takeCancel takeRow takeLine seeded startState scriptOf closing readParts readText
 examples = (refl, refl, refl, refl, refl, refl, refl)
 
 -- "at most 65,536 bytes"; "file too long ..: 0"

@@ -27,7 +27,7 @@ use Rattle.book.specs.declared.VenueOrder.{VenueOrder}
 use Rattle.book.specs.declared.msgs.Msgs.{Msgs}
 use Rattle.text.specs.Fields.{is, parted, fields}
 use Rattle.runtext.specs.Lines.{lineOf}
-use Rattle.runtext.specs.Read.{reserved, marked, markedKind, markedIn, inFlight, takeLine, took, blankReading, Read, readText, isEmpty, closing, badAfter, shown, scriptOf, onTook, readParts}
+use Rattle.runtext.specs.Read.{reserved, marked, markedKind, markedIn, inFlight, takeLine, took, blankReading, Read, readText, isEmpty, closing, badAfter, readWith, scriptOf, onTook, readParts}
 use Rattle.runtext.specs.declared.line.Line.{Line}
 use Rattle.runtext.specs.declared.read.Lots.{Lots}
 use Rattle.runtext.specs.declared.read.Reserved.the-variants.{None, Some}
@@ -149,7 +149,7 @@ module _ (text : List ℕ) (at end n : ℕ) (r : Reading) (w : List ℕ) (is-end
         let z : length text ≤ at = omega arith in
         rw (last-part, drop-of-length-le text z, lt-ltb n 2 m)
 
-    pub read-whole : end ≤ at → 2 ≤ n → shown (scriptOf maybe.None r) w ≡ readParts n r w (parted 10 (drop at text))
+    pub read-whole : end ≤ at → 2 ≤ n → readWith (scriptOf maybe.None r) w ≡ readParts n r w (parted 10 (drop at text))
     unfolding closing pick
     read-whole g m =
         let z : length text ≤ at = omega arith in
@@ -170,11 +170,11 @@ module _ (text : List ℕ) (at end n : ℕ) (r : Reading) (w : List ℕ) (is-end
 
 -- ---- the whole text
 module _ (text w₀ : List ℕ) where
-  pub read-long : (r : Reading) (s : Script) → 65536 < length text → r ≡ blankReading → s ≡ scriptOf (maybe.Some 0) r → shown s w₀ ≡ readText text w₀
+  pub read-long : (r : Reading) (s : Script) → 65536 < length text → r ≡ blankReading → s ≡ scriptOf (maybe.Some 0) r → readWith s w₀ ≡ readText text w₀
   unfolding readText pick
   read-long r s h e f = rw (lt-leb (length text) 65536 h, f, e)
 
   pub read-done : (r₀ : Reading) → r₀ ≡ blankReading → length text ≤ 65536 → (q : Read) → readParts 0 r₀ w₀ (parted 10 text) ≡ q
-      → (s : Script) (m : MaybeU64) (r : Reading) (w : List ℕ) → s ≡ scriptOf m r → shown (scriptOf m r) w ≡ q → shown s w ≡ readText text w₀
+      → (s : Script) (m : MaybeU64) (r : Reading) (w : List ℕ) → s ≡ scriptOf m r → readWith (scriptOf m r) w ≡ q → readWith s w ≡ readText text w₀
   unfolding readText pick
   read-done r₀ e h q i s m r w f g = rw (le-leb (length text) 65536 h, ← e, i, f) g

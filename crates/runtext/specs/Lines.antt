@@ -57,8 +57,8 @@ nowLine fs = long fs 2 (Fill Immediate)
 unfoldable pub queueLine : List (List ℕ) → Line
 queueLine fs = long fs 5 (numberAt fs 2 λ rate. numberAt fs 3 λ per. numberAt fs 4 λ least. Fill (QueuePosition rate per least))
 
-unfoldable pub fillLine : List (List ℕ) → Line
-fillLine fs = pick (isWord fs 1 "now") (nowLine fs) (pick (isWord fs 1 "queue") (queueLine fs) Bad)
+unfoldable pub fillModeLine : List (List ℕ) → Line
+fillModeLine fs = pick (isWord fs 1 "now") (nowLine fs) (pick (isWord fs 1 "queue") (queueLine fs) Bad)
 
 -- "`o` eff id B|S price qty life (0 none)"; "`active_after` is eff"
 unfoldable pub orderLine : List (List ℕ) → Line
@@ -91,7 +91,7 @@ rowLine fs =
 unfoldable pub lineOf : List (List ℕ) → Line
 lineOf fs =
     pick (isWord fs 0 "c") (configLine fs)
-    (pick (isWord fs 0 "f") (fillLine fs)
+    (pick (isWord fs 0 "f") (fillModeLine fs)
     (pick (isWord fs 0 "o") (orderLine fs)
     (pick (isWord fs 0 "x") (cancelLine fs)
     (pick (isWord fs 0 "r") (rowLine fs)

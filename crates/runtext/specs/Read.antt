@@ -10,6 +10,7 @@ use Rattle.numbers.specs.Words.{fits}
 use Rattle.numbers.specs.declared.MaybeU64.{MaybeU64}
 use Rattle.numbers.specs.declared.MaybeU64.the-variants as maybe
 use Rattle.lists.specs.Lists.{Put, Row, pushed, putBefore}
+use Rattle.book.specs.Capacities.{msgsCapacity, accountCapacity}
 use Rattle.book.specs.Entries.{onSide, isLater}
 use Rattle.book.specs.Rows.{emptyOrders, emptyMsgs, emptyDeliveries, emptyObserved, emptyAgentAccount, msgsRow, msgsOf, accountRow, accountOf}
 use Rattle.book.specs.declared.MsgKind.{MsgKind}
@@ -85,14 +86,14 @@ onPut p k z = pick (p .ok) (k (p .list)) z
 
 -- "Messages take numbers from 0 in line order": this one takes the count of those before it
 abbrev pub queued : ℕ → MsgKind → Msgs → Put VenueMsg
-queued eff kind l = putBefore 16 (isLater eff (l .count)) (record { «eff_ns» = eff; seq = l .count; kind = kind }) (msgsRow l)
+queued eff kind l = putBefore msgsCapacity (isLater eff (l .count)) (record { «eff_ns» = eff; seq = l .count; kind = kind }) (msgsRow l)
 
 -- "accounts opened"
 unfoldable pub takeOrder : ℕ → VenueOrder → ℕ → Reading → Taken
 takeOrder n o life r =
     pick (isMessageDue n (r .rows)) (
     onReserved (reserved (r .lots) (o .side) (o .qty)) (λ lots.
-    onPut (pushed 8 (record { «order_id» = o .id; «awaiting_cancel_outcome» = false }) (accountRow (r .account))) (λ account.
+    onPut (pushed accountCapacity (record { «order_id» = o .id; «awaiting_cancel_outcome» = false }) (accountRow (r .account))) (λ account.
     onPut (queued (o .«active_after_ns») (Activate o life) (r .msgs)) (λ msgs.
     good (record { cfg = r .cfg; seed = r .seed; lots = lots; msgs = msgsOf msgs; account = accountOf account; rows = r .rows }))
     (bad r)) (bad r)) (bad r)) (bad r)
@@ -180,12 +181,12 @@ pub record Read : Type 0 where
   pub script : Script
   pub words : List ℕ
 
-abbrev pub shown : Script → List ℕ → Read
-shown s w = record { script = s; words = w }
+abbrev pub readWith : Script → List ℕ → Read
+readWith s w = record { script = s; words = w }
 
 -- the line behind n others is bad: "`bad N` (from 1 ..)"
 abbrev pub badAfter : ℕ → Reading → List ℕ → Read
-badAfter n r w = shown (scriptOf (maybe.Some (n + 1)) r) w
+badAfter n r w = readWith (scriptOf (maybe.Some (n + 1)) r) w
 
 abbrev pub isEmpty : {A : Type 0} → List A → Bool
 isEmpty [] = true
@@ -193,7 +194,7 @@ isEmpty (x ∷ l) = false
 
 -- what stands behind the last newline, after n lines: a line that is not newline-ended is bad; and with no `c` or no `f`, "absent line: the next number"
 unfoldable pub closing : ℕ → Reading → List ℕ → List ℕ → Read
-closing n r w l = pick (isEmpty l) (pick (ltb n 2) (badAfter n r w) (shown (scriptOf maybe.None r) w)) (badAfter n r w)
+closing n r w l = pick (isEmpty l) (pick (ltb n 2) (badAfter n r w) (readWith (scriptOf maybe.None r) w)) (badAfter n r w)
 
 -- k of a line that was read, or "the first bad line"
 abbrev pub onTook : ℕ → Reading → Took → (Reading → List ℕ → Read) → Read
@@ -206,4 +207,4 @@ readParts n r w (l ∷ ls) = pick (isEmpty ls) (closing n r w l) (onTook n r (ta
 
 -- "at most 65,536 bytes, newline-ended lines"; "file too long ..: 0"
 unfoldable pub readText : List ℕ → List ℕ → Read
-readText text w = pick (leb (length text) 65536) (readParts 0 blankReading w (parted 10 text)) (shown (scriptOf (maybe.Some 0) blankReading) w)
+readText text w = pick (leb (length text) 65536) (readParts 0 blankReading w (parted 10 text)) (readWith (scriptOf (maybe.Some 0) blankReading) w)

@@ -12,7 +12,7 @@ use text::fields::is_same;
 use text::fields::number_at;
 ghost use mathlib.Core.Path.{_≡_};
 ghost use Rattle.text.specs.Fields.{fields};
-ghost use Rattle.runtext.specs.Lines.{sideOf, configLine, nowLine, queueLine, fillLine, orderLine, cancelLine, rowLine, lineOf};
+ghost use Rattle.runtext.specs.Lines.{sideOf, configLine, nowLine, queueLine, fillModeLine, orderLine, cancelLine, rowLine, lineOf};
 
 pub enum Line {
     Bad,
@@ -112,7 +112,7 @@ fn now_line(l: &[u8]) -> Line
 }
 
 fn fill_line(l: &[u8]) -> Line
-    ensures { λ r. ⌜ r ≡ fillLine (fields (now (l .entry))) ⌝ }
+    ensures { λ r. ⌜ r ≡ fillModeLine (fields (now (l .entry))) ⌝ }
 {
     let mode = field_at(l, 1);
     if is_same(mode, b"now") {

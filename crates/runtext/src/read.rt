@@ -28,7 +28,7 @@ use numbers::position::Position;
 use numbers::words::checked_add;
 use text::fields::piece_end;
 ghost use mathlib.Core.Path.{_≡_};
-ghost use Rattle.runtext.specs.Read.{blankReading, bad, reserved, marked, markedIn, seeded, startState, isMessageDue, takeConfig, takeFill, takeOrder, takeCancel, takeRow, takeLine, took, scriptOf, readText, shown};
+ghost use Rattle.runtext.specs.Read.{blankReading, bad, reserved, marked, markedIn, seeded, startState, isMessageDue, takeConfig, takeFill, takeOrder, takeCancel, takeRow, takeLine, took, scriptOf, readText, readWith};
 
 // The lots of each side, all quantities together within 64 bits.
 pub struct Lots {
@@ -136,7 +136,7 @@ fn mark_all(msgs: Msgs, id: u64) -> Msgs
     ensures { λ r. ⌜ r ≡ markedIn id msgs ⌝ }
 {
     let mut next = msgs;
-    for i in 0..16 {
+    for i in 0..book::msgs::CAPACITY {
         let m = next.slots[i];
         let n = mark(m, id);
         next.slots[i] = n;
@@ -252,10 +252,10 @@ fn take_cancel(n: usize, eff_ns: u64, id: u64, r: Reading) -> Taken
         return refused(r);
     }
     let msgs = r.msgs;
-    let told = mark_all(msgs, id);
-    let put = told.insert_by_key(VenueMsg {
+    let marked = mark_all(msgs, id);
+    let put = marked.insert_by_key(VenueMsg {
         eff_ns,
-        seq: told.count as u64,
+        seq: marked.count as u64,
         kind: MsgKind::Cancel { id },
     });
     if !put.ok {
@@ -398,7 +398,7 @@ fn script_of(bad: MaybeU64, r: Reading) -> Script
 
 // The whole file. The words of its rows go to the front of `rows`.
 pub fn read(text: &[u8], rows: &mut [u64; 2560]) -> Script
-    ensures { λ s. ⌜ shown s (now (rows .exit)) ≡ readText (now (text .entry)) (now (rows .entry)) ⌝ }
+    ensures { λ s. ⌜ readWith s (now (rows .exit)) ≡ readText (now (text .entry)) (now (rows .entry)) ⌝ }
 {
     let mut r = blank_reading();
     if text.len() > 65536 {

@@ -1,6 +1,6 @@
--- `day::turn` meets its contract, by the two laws of `TurnWays`. Assumes nothing.
+-- `day::turn` meets its contract, by the two laws of `TurnExits`. Assumes nothing.
 use borrow.Author.Needs.{needs}
-use Rattle.day.proofs.TurnWays.{ends, goes-on, whole-text}
+use Rattle.day.proofs.TurnExits.{ends, goes-on, whole-text}
 use Rattle.day.proofs.turn.Statement.{statement}
 use Rattle.day.proofs.turn.Tie as tie
 

@@ -1,5 +1,5 @@
--- `delivery::count_reject` meets its contract, by the laws of `DeliveryWays`. Assumes nothing.
-use Rattle.delivery.proofs.DeliveryWays.{reject-not, reject-venue, reject-full, reject-counts}
+-- `delivery::count_reject` meets its contract, by the laws of `DeliveryExits`. Assumes nothing.
+use Rattle.delivery.proofs.DeliveryExits.{reject-not, reject-venue, reject-full, reject-counts}
 use borrow.Author.Needs.{needs}
 use Rattle.delivery.proofs.count_reject.Statement.{statement}
 use Rattle.delivery.proofs.count_reject.Tie as tie

@@ -3,9 +3,9 @@ use mathlib.Core.Path.{_≡_, refl, _∙_}
 use lib.ListN.{length}
 use Rattle.book.specs.declared.state.KernelState.{KernelState}
 use Rattle.rules.specs.Delivery.{deliverAll}
-use Rattle.reports.specs.Log.{logAt, played}
+use Rattle.reports.specs.Log.{logAt, expected}
 use Rattle.delivery.specs.Delivery.{withEmptied}
-use Rattle.delivery.proofs.DeliveryWays.{one-less, all-done, all-turn, all-stop}
+use Rattle.delivery.proofs.DeliveryExits.{one-less, all-done, all-turn, all-stop}
 use borrow.Author.Needs.{needs}
 use native.Mathlib.Omega.{arith}
 use Rattle.delivery.proofs.deliver_all.Statement.{statement}
@@ -13,7 +13,7 @@ use Rattle.delivery.proofs.deliver_all.Tie as tie
 
 abbrev Inv-loop : tie.InvT-loop
 Inv-loop log₀ raised d₀ g₀ a₀ n₀ log d g a n = (length log ≡ length log₀)
-    × ((s : KernelState) → played (logAt log n) (deliverAll (d .count) (withEmptied s d g a)) ≡ played (logAt log₀ n₀) (deliverAll (d₀ .count) (withEmptied s d₀ g₀ a₀)))
+    × ((s : KernelState) → expected (logAt log n) (deliverAll (d .count) (withEmptied s d g a)) ≡ expected (logAt log₀ n₀) (deliverAll (d₀ .count) (withEmptied s d₀ g₀ a₀)))
 
 abbrev μ-loop : tie.MeasureT-loop
 μ-loop log₀ raised d₀ g₀ a₀ n₀ log d g a n = d .count
@@ -30,12 +30,12 @@ deliver-all-spec =
     (λ c. let b = c .before .before .before .before .before .before .before .before .before .before .before .before in
     omega (arith, one-less (b .before .loop .d) (b .pop-front .result) (b .pop-front .ensures) (c .before .before .before .before .before .before .before .before .before .before .got .given .0 .0) (c .before .before .before .before .before .before .before .before .before .before .got .given .1)))
     (λ c. let b = c .before .before .before .before .before .before in let d = b .before .before .before .before in let e = d .before .before in let f = e .before in (
-      b .hand .kept .0 ∙ f .loop .inv .0,
-      λ s. all-turn _ _ _ _ _ (e .pop-front .result) (e .pop-front .ensures) (d .got .given .0 .0) (d .got .given .1) (b .hand .result) _ (b .hand .ensures) (c .enum-told2 .given .1) s ∙ f .loop .inv .1 s,
+      b .deliver .kept .0 ∙ f .loop .inv .0,
+      λ s. all-turn _ _ _ _ _ (e .pop-front .result) (e .pop-front .ensures) (d .got .given .0 .0) (d .got .given .1) (b .deliver .result) _ (b .deliver .ensures) (c .enum-told2 .given .1) s ∙ f .loop .inv .1 s,
     ))
     (λ c. c .before .before .before .loop .inv .0)
     (λ c. let b = c .before .before in
     λ s. all-done _ _ _ _ _ (b .pop-front .result) (b .pop-front .ensures) (c .enum-told .given .1) (b .before .loop .d .count) s ∙ b .before .loop .inv .1 s)
-    (λ c. c .before .before .before .before .before .hand .kept .0 ∙ c .before .before .before .before .before .before .before .before .before .before .before .before .loop .inv .0)
+    (λ c. c .before .before .before .before .before .deliver .kept .0 ∙ c .before .before .before .before .before .before .before .before .before .before .before .before .loop .inv .0)
     (λ c. let b = c .before .before .before .before .before in let d = b .before .before .before .before in let e = d .before .before in let f = e .before in
-    λ s. all-stop _ _ _ _ _ (e .pop-front .result) (e .pop-front .ensures) (d .got .given .0 .0) (d .got .given .1) (b .hand .result) _ (b .hand .ensures) (c .match2 .keys2) s ∙ f .loop .inv .1 s))
+    λ s. all-stop _ _ _ _ _ (e .pop-front .result) (e .pop-front .ensures) (d .got .given .0 .0) (d .got .given .1) (b .deliver .result) _ (b .deliver .ensures) (c .match2 .keys2) s ∙ f .loop .inv .1 s))

@@ -1,6 +1,6 @@
--- `delivery::end_of_data` meets its contract, by the laws of `DeliveryWays`. Assumes nothing.
+-- `delivery::end_of_data` meets its contract, by the laws of `DeliveryExits`. Assumes nothing.
 use mathlib.Core.Path.{_∙_}
-use Rattle.delivery.proofs.DeliveryWays.{end-stops, end-closes}
+use Rattle.delivery.proofs.DeliveryExits.{end-stops, end-closes}
 use borrow.Author.Needs.{needs}
 use Rattle.delivery.proofs.end_of_data.Statement.{statement}
 use Rattle.delivery.proofs.end_of_data.Tie as tie

@@ -1,5 +1,5 @@
--- `delivery::move_agent` meets its contract, by the laws of `DeliveryWays`. Assumes nothing.
-use Rattle.delivery.proofs.DeliveryWays.{move-none, move-out, move-full, move-counts}
+-- `delivery::move_agent` meets its contract, by the laws of `DeliveryExits`. Assumes nothing.
+use Rattle.delivery.proofs.DeliveryExits.{move-none, move-out, move-full, move-counts}
 use borrow.Author.Needs.{needs}
 use Rattle.delivery.proofs.move_agent.Statement.{statement}
 use Rattle.delivery.proofs.move_agent.Tie as tie

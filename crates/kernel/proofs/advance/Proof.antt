@@ -1,7 +1,7 @@
--- `kernel::advance` meets its contract, by the laws of `CallsWays`. Assumes nothing.
+-- `kernel::advance` meets its contract, by the laws of `CallsExits`. Assumes nothing.
 use borrow.Author.Tests.{eq-eqb, ne-eqb, not-true, not-false}
 use mathlib.Core.Path.{sym, _∙_}
-use Rattle.kernel.proofs.CallsWays.{refused-words, refused-count, advance-ran, advance-halts}
+use Rattle.kernel.proofs.CallsExits.{refused-words, refused-count, advance-ran, advance-halts}
 use borrow.Author.Needs.{needs}
 use native.Mathlib.Omega.{arith}
 use Rattle.kernel.proofs.advance.Statement.{statement}

@@ -1,5 +1,5 @@
--- `matching::fill_at` meets its contract, by the laws of `MatchingWays`. Assumes nothing.
-use Rattle.matching.proofs.MatchingWays.{fill-unstamped, fill-ungated, fill-priceless, fill-unnumbered, fill-uncounted, fill-told}
+-- `matching::fill_at` meets its contract, by the laws of `MatchingExits`. Assumes nothing.
+use Rattle.matching.proofs.MatchingExits.{fill-unstamped, fill-ungated, fill-priceless, fill-unnumbered, fill-uncounted, fill-raised}
 use borrow.Author.Needs.{needs}
 use Rattle.matching.proofs.fill_at.Statement.{statement}
 use Rattle.matching.proofs.fill_at.Tie as tie
@@ -49,6 +49,6 @@ fill-at-spec =
     (λ c. let b = c .before .before .before .before in let d = b .before .before .before in let e = d .before .before in let f = e .before .before .before in
     let g = f .before .before in let h = g .before in let i = h .before .before in let j = i .before .before in let k = j .before .before in
     let l = k .before .before .before .before in let m = l .before .before in
-    fill-told _ _ _ _ _ _ (m .checked-add .ensures) _ (l .next .given .1) _ (k .fill .ensures) _ (j .gated .given .1) _ (i .checked-mul .ensures) _
+    fill-raised _ _ _ _ _ _ (m .checked-add .ensures) _ (l .next .given .1) _ (k .fill .ensures) _ (j .gated .given .1) _ (i .checked-mul .ensures) _
     (h .enum-told3 .given .1) _ (g .checked-add2 .ensures) _ (f .exec .given .1) _ (e .checked-add3 .ensures) _ _ _ _ (d .count .given .1) (b .fill-record .ensures)
     (c .before .before .emit .ensures)))

@@ -1,5 +1,5 @@
--- `matching::fill_kind` meets its contract, by the laws of `MatchingWays`. Assumes nothing.
-use Rattle.matching.proofs.MatchingWays.{kind-all, kind-some}
+-- `matching::fill_kind` meets its contract, by the laws of `MatchingExits`. Assumes nothing.
+use Rattle.matching.proofs.MatchingExits.{kind-all, kind-some}
 use borrow.Author.Needs.{needs}
 use Rattle.matching.proofs.fill_kind.Statement.{statement}
 use Rattle.matching.proofs.fill_kind.Tie as tie

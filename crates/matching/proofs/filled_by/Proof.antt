@@ -1,5 +1,5 @@
--- `matching::filled_by` meets its contract, by the laws of `MatchingWays`. Assumes nothing.
-use Rattle.matching.proofs.MatchingWays.{filled-all, filled-some}
+-- `matching::filled_by` meets its contract, by the laws of `MatchingExits`. Assumes nothing.
+use Rattle.matching.proofs.MatchingExits.{filled-all, filled-some}
 use borrow.Author.Needs.{needs}
 use Rattle.matching.proofs.filled_by.Statement.{statement}
 use Rattle.matching.proofs.filled_by.Tie as tie

@@ -1,6 +1,6 @@
--- `matching::leave` meets its contract, by the laws of `MatchingWays`. Assumes nothing.
+-- `matching::leave` meets its contract, by the laws of `MatchingExits`. Assumes nothing.
 use borrow.Author.Tests.{not-true, not-false}
-use Rattle.matching.proofs.MatchingWays.{leave-none, leave-unmarked, leave-full, leave-marked}
+use Rattle.matching.proofs.MatchingExits.{leave-none, leave-unmarked, leave-full, leave-marked}
 use borrow.Author.Needs.{needs}
 use Rattle.matching.proofs.leave.Statement.{statement}
 use Rattle.matching.proofs.leave.Tie as tie

@@ -1,6 +1,6 @@
--- `matching::lots_at` meets its contract, by the laws of `MatchingWays`. Assumes nothing.
+-- `matching::lots_at` meets its contract, by the laws of `MatchingExits`. Assumes nothing.
 use borrow.Author.Tests.{not-true, not-false}
-use Rattle.matching.proofs.MatchingWays.{lots-empty, lots-unmatched, lots-fail, lots-zero, lots-take}
+use Rattle.matching.proofs.MatchingExits.{lots-empty, lots-unmatched, lots-fail, lots-zero, lots-take}
 use borrow.Author.Needs.{needs}
 use Rattle.matching.proofs.lots_at.Statement.{statement}
 use Rattle.matching.proofs.lots_at.Tie as tie

@@ -1,5 +1,5 @@
--- `matching::mark` meets its contract, by the laws of `MatchingWays`. Assumes nothing.
-use Rattle.matching.proofs.MatchingWays.{mark-none, mark-some}
+-- `matching::mark` meets its contract, by the laws of `MatchingExits`. Assumes nothing.
+use Rattle.matching.proofs.MatchingExits.{mark-none, mark-some}
 use Rattle.matching.proofs.mark.Statement.{statement}
 use Rattle.matching.proofs.mark.Tie as tie
 

@@ -1,13 +1,13 @@
--- `matching::match_orders` meets its contract, by the laws of `MatchingWays`: from each place on, the rest of the pass gives what the whole gives. Assumes nothing.
+-- `matching::match_orders` meets its contract, by the laws of `MatchingExits`: from each place on, the rest of the pass gives what the whole gives. Assumes nothing.
 use mathlib.Core.Path.{_≡_, refl, _∙_}
 use Prim.Native.Nat.{_+_, _-_, _≤_}
 use lib.ListN.{length, length-set}
 use Rattle.book.specs.declared.state.KernelState.{KernelState}
 use Rattle.book.proofs.Long.{deliveries-long}
 use Rattle.rules.specs.Matching.{matchFrom}
-use Rattle.reports.specs.Log.{logAt, played}
+use Rattle.reports.specs.Log.{logAt, expected}
 use Rattle.matching.specs.Matching.{withMatched}
-use Rattle.matching.proofs.MatchingWays.{take-there, match-past, match-fail, match-stop, match-unreported, match-full, match-on, match-end}
+use Rattle.matching.proofs.MatchingExits.{take-there, match-past, match-fail, match-stop, match-unreported, match-full, match-on, match-end}
 use borrow.Author.Needs.{needs}
 use native.Mathlib.Omega.{arith}
 use Rattle.matching.proofs.match_orders.Statement.{statement}
@@ -16,7 +16,7 @@ use Rattle.matching.proofs.match_orders.Tie as tie
 abbrev Inv-loop : tie.InvT-loop
 Inv-loop log₀ raised cfg row count mode v₀ os₀ ds₀ n₀ i₀ log v os ds n i =
     (i ≤ count) × (length (ds .slots) ≡ 24) × (length log ≡ length log₀)
-    × ((s : KernelState) → played (logAt log n) (matchFrom cfg row (count - i) i (withMatched s v os ds)) ≡ played (logAt log₀ raised) (matchFrom cfg row count 0 (withMatched s v₀ os₀ ds₀)))
+    × ((s : KernelState) → expected (logAt log n) (matchFrom cfg row (count - i) i (withMatched s v os ds)) ≡ expected (logAt log₀ raised) (matchFrom cfg row count 0 (withMatched s v₀ os₀ ds₀)))
 
 abbrev μ-loop : tie.MeasureT-loop
 μ-loop log₀ raised cfg row count mode v₀ os₀ ds₀ n₀ i₀ log v os ds n i = count - i

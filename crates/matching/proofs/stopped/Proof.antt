@@ -1,6 +1,6 @@
 -- `matching::stopped` meets its contract. Assumes nothing.
 use Rattle.reports.specs.Log.{logAt}
-use Rattle.reports.proofs.Then.{played-halt}
+use Rattle.reports.proofs.Then.{expected-halt}
 use Rattle.matching.specs.Matching.{withVenue}
 use Rattle.matching.proofs.stopped.Statement.{statement}
 use Rattle.matching.proofs.stopped.Tie as tie
@@ -8,4 +8,4 @@ use Rattle.matching.proofs.stopped.Tie as tie
 pub stopped-spec : {M : Type 1} → statement M
 stopped-spec =
     tie.close (tie.spec
-    (λ c. λ s w. played-halt (logAt w (c .args .raised)) (c .args .reason) (withVenue s (c .args .venue))))
+    (λ c. λ s w. expected-halt (logAt w (c .args .raised)) (c .args .reason) (withVenue s (c .args .venue))))

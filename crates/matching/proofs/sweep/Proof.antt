@@ -1,12 +1,12 @@
--- `matching::sweep` meets its contract, by the laws of `MatchingWays`: from each look on, the rest of the pass gives what the whole gives. Assumes nothing.
+-- `matching::sweep` meets its contract, by the laws of `MatchingExits`: from each look on, the rest of the pass gives what the whole gives. Assumes nothing.
 use mathlib.Core.List.{List}
 use mathlib.Core.Path.{_≡_, _∙_}
 use Prim.Native.Nat.{ℕ, _+_, _-_, _≤_}
 use Rattle.book.specs.declared.state.KernelState.{KernelState}
 use Rattle.rules.specs.Matching.{sweepFrom}
-use Rattle.reports.specs.Log.{logAt, played}
+use Rattle.reports.specs.Log.{logAt, expected}
 use Rattle.matching.specs.Matching.{withSwept}
-use Rattle.matching.proofs.MatchingWays.{sweep-past, sweep-on, sweep-stop, sweep-end}
+use Rattle.matching.proofs.MatchingExits.{sweep-past, sweep-on, sweep-stop, sweep-end}
 use borrow.Author.Needs.{needs}
 use native.Mathlib.Omega.{arith}
 use Rattle.matching.proofs.sweep.Statement.{statement}
@@ -15,7 +15,7 @@ use Rattle.matching.proofs.sweep.Tie as tie
 abbrev Inv-loop : tie.InvT-loop
 Inv-loop looks o₀ m₀ a₀ place₀ k₀ o m a place k =
     (k ≤ looks) × (place ≤ k)
-    × ((s : KernelState) (n : ℕ) (w : List ℕ) → played (logAt w n) (sweepFrom (looks - k) place (withSwept s o m a)) ≡ played (logAt w n) (sweepFrom looks 0 (withSwept s o₀ m₀ a₀)))
+    × ((s : KernelState) (n : ℕ) (w : List ℕ) → expected (logAt w n) (sweepFrom (looks - k) place (withSwept s o m a)) ≡ expected (logAt w n) (sweepFrom looks 0 (withSwept s o₀ m₀ a₀)))
 
 abbrev μ-loop : tie.MeasureT-loop
 μ-loop looks o₀ m₀ a₀ place₀ k₀ o m a place k = looks - k

@@ -1,5 +1,5 @@
--- `matching::terminal_at` meets its contract, by the laws of `MatchingWays`. Assumes nothing.
-use Rattle.matching.proofs.MatchingWays.{terminal-none, terminal-some}
+-- `matching::terminal_at` meets its contract, by the laws of `MatchingExits`. Assumes nothing.
+use Rattle.matching.proofs.MatchingExits.{terminal-none, terminal-some}
 use borrow.Author.Needs.{needs}
 use Rattle.matching.proofs.terminal_at.Statement.{statement}
 use Rattle.matching.proofs.terminal_at.Tie as tie

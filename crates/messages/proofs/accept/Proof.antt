@@ -1,5 +1,5 @@
 -- `messages::accept` meets its contract. Assumes nothing.
-use Rattle.messages.proofs.ActivationWays.{accept-unsent, accept-unbooked, accept-booked}
+use Rattle.messages.proofs.ActivationExits.{accept-unsent, accept-unbooked, accept-booked}
 use borrow.Author.Needs.{needs}
 use Rattle.messages.proofs.accept.Statement.{statement}
 use Rattle.messages.proofs.accept.Tie as tie

@@ -1,5 +1,5 @@
 -- `messages::activate` meets its contract. Assumes nothing.
-use Rattle.messages.proofs.ActivationWays.{activate-full, activate-unpriced, activate-empty, activate-sound}
+use Rattle.messages.proofs.ActivationExits.{activate-full, activate-unpriced, activate-empty, activate-sound}
 use borrow.Author.Needs.{needs}
 use Rattle.messages.proofs.activate.Statement.{statement}
 use Rattle.messages.proofs.activate.Tie as tie

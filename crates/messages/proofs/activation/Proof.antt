@@ -1,5 +1,5 @@
 -- `messages::activation` meets its contract. Assumes nothing.
-use Rattle.messages.proofs.ActivationWays.{life-unpriced, life-empty, life-none, life-late, life-full, life-set}
+use Rattle.messages.proofs.ActivationExits.{life-unpriced, life-empty, life-none, life-late, life-full, life-set}
 use borrow.Author.Needs.{needs}
 use Rattle.messages.proofs.activation.Statement.{statement}
 use Rattle.messages.proofs.activation.Tie as tie

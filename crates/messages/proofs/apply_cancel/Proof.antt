@@ -1,5 +1,5 @@
 -- `messages::apply_cancel` meets its contract. Assumes nothing.
-use Rattle.messages.proofs.CancelWays.{cancel-full, cancel-booked, cancel-pending, cancel-awaiting, cancel-unknown}
+use Rattle.messages.proofs.CancelExits.{cancel-full, cancel-booked, cancel-pending, cancel-awaiting, cancel-unknown}
 use borrow.Author.Needs.{needs}
 use Rattle.messages.proofs.apply_cancel.Statement.{statement}
 use Rattle.messages.proofs.apply_cancel.Tie as tie

@@ -1,5 +1,5 @@
 -- `messages::apply_expire` meets its contract. Assumes nothing.
-use Rattle.messages.proofs.CancelWays.{expire-unbooked, expire-full, expire-found}
+use Rattle.messages.proofs.CancelExits.{expire-unbooked, expire-full, expire-found}
 use borrow.Author.Needs.{needs}
 use Rattle.messages.proofs.apply_expire.Statement.{statement}
 use Rattle.messages.proofs.apply_expire.Tie as tie

@@ -1,5 +1,5 @@
 -- `messages::apply_next_msg` meets its contract. Assumes nothing.
-use Rattle.messages.proofs.CancelWays.{next-none, next-cancel, next-activate, next-expire}
+use Rattle.messages.proofs.CancelExits.{next-none, next-cancel, next-activate, next-expire}
 use borrow.Author.Needs.{needs}
 use Rattle.messages.proofs.apply_next_msg.Statement.{statement}
 use Rattle.messages.proofs.apply_next_msg.Tie as tie

@@ -1,5 +1,5 @@
 -- `messages::await_marked` meets its contract. Assumes nothing.
-use Rattle.messages.proofs.MessagesWays.{await-unmarked, await-in, await-full}
+use Rattle.messages.proofs.MessagesExits.{await-unmarked, await-in, await-full}
 use borrow.Author.Needs.{needs}
 use Rattle.messages.proofs.await_marked.Statement.{statement}
 use Rattle.messages.proofs.await_marked.Tie as tie

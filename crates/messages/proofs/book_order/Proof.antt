@@ -1,5 +1,5 @@
 -- `messages::book_order` meets its contract. Assumes nothing.
-use Rattle.messages.proofs.MessagesWays.{book-in, book-full}
+use Rattle.messages.proofs.MessagesExits.{book-in, book-full}
 use borrow.Author.Needs.{needs}
 use Rattle.messages.proofs.book_order.Statement.{statement}
 use Rattle.messages.proofs.book_order.Tie as tie

@@ -1,5 +1,5 @@
 -- `messages::cancel_awaiting` meets its contract. Assumes nothing.
-use Rattle.messages.proofs.CancelWays.{awaiting-none, awaiting-told}
+use Rattle.messages.proofs.CancelExits.{awaiting-none, awaiting-reported}
 use borrow.Author.Needs.{needs}
 use Rattle.messages.proofs.cancel_awaiting.Statement.{statement}
 use Rattle.messages.proofs.cancel_awaiting.Tie as tie
@@ -15,4 +15,4 @@ cancel-awaiting-spec =
     (λ c κs. search needs)
     (λ c. search needs)
     (λ c. let b = c .before .before .before .before in let d = b .before .before .before in let e = d .before .before in
-    awaiting-told _ _ _ _ _ _ (e .remove .result) (e .remove .ensures) _ (d .got .given .1) _ (b .status-report .ensures) (c .before .before .send .ensures)))
+    awaiting-reported _ _ _ _ _ _ (e .remove .result) (e .remove .ensures) _ (d .got .given .1) _ (b .status-report .ensures) (c .before .before .send .ensures)))

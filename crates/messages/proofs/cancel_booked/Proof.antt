@@ -1,5 +1,5 @@
 -- `messages::cancel_booked` meets its contract. Assumes nothing.
-use Rattle.messages.proofs.CancelWays.{booked-none, booked-unreleased, booked-canceled}
+use Rattle.messages.proofs.CancelExits.{booked-none, booked-unreleased, booked-canceled}
 use borrow.Author.Needs.{needs}
 use Rattle.messages.proofs.cancel_booked.Statement.{statement}
 use Rattle.messages.proofs.cancel_booked.Tie as tie

@@ -1,5 +1,5 @@
 -- `messages::cancel_pending` meets its contract. Assumes nothing.
-use Rattle.messages.proofs.CancelWays.{pending-none, pending-other, pending-unreleased, pending-canceled}
+use Rattle.messages.proofs.CancelExits.{pending-none, pending-other, pending-unreleased, pending-canceled}
 use borrow.Author.Needs.{needs}
 use Rattle.messages.proofs.cancel_pending.Statement.{statement}
 use Rattle.messages.proofs.cancel_pending.Tie as tie

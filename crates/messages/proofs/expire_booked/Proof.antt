@@ -1,5 +1,5 @@
 -- `messages::expire_booked` meets its contract. Assumes nothing.
-use Rattle.messages.proofs.CancelWays.{expire-none, expire-unreleased, expire-unsent, expire-sent}
+use Rattle.messages.proofs.CancelExits.{expire-none, expire-unreleased, expire-unsent, expire-sent}
 use borrow.Author.Needs.{needs}
 use Rattle.messages.proofs.expire_booked.Statement.{statement}
 use Rattle.messages.proofs.expire_booked.Tie as tie

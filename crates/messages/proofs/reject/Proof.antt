@@ -1,5 +1,5 @@
 -- `messages::reject` meets its contract. Assumes nothing.
-use Rattle.messages.proofs.ActivationWays.{reject-unreleased, reject-unsent, reject-sent}
+use Rattle.messages.proofs.ActivationExits.{reject-unreleased, reject-unsent, reject-sent}
 use borrow.Author.Needs.{needs}
 use Rattle.messages.proofs.reject.Statement.{statement}
 use Rattle.messages.proofs.reject.Tie as tie

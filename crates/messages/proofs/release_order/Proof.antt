@@ -1,5 +1,5 @@
 -- `messages::release_order` meets its contract. Assumes nothing.
-use Rattle.messages.proofs.MessagesWays.{release-kept, release-fail}
+use Rattle.messages.proofs.MessagesExits.{release-kept, release-fail}
 use borrow.Author.Needs.{needs}
 use Rattle.messages.proofs.release_order.Statement.{statement}
 use Rattle.messages.proofs.release_order.Tie as tie

@@ -1,5 +1,5 @@
 -- `messages::remove_expiry` meets its contract. Assumes nothing.
-use Rattle.messages.proofs.MessagesWays.{expiry-none, expiry-gone}
+use Rattle.messages.proofs.MessagesExits.{expiry-none, expiry-gone}
 use borrow.Author.Needs.{needs}
 use Rattle.messages.proofs.remove_expiry.Statement.{statement}
 use Rattle.messages.proofs.remove_expiry.Tie as tie

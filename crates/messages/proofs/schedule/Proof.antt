@@ -1,5 +1,5 @@
 -- `messages::schedule` meets its contract. Assumes nothing.
-use Rattle.messages.proofs.MessagesWays.{schedule-none, schedule-in, schedule-full}
+use Rattle.messages.proofs.MessagesExits.{schedule-none, schedule-in, schedule-full}
 use borrow.Author.Needs.{needs}
 use Rattle.messages.proofs.schedule.Statement.{statement}
 use Rattle.messages.proofs.schedule.Tie as tie

@@ -1,5 +1,5 @@
 -- `messages::schedule_expiry` meets its contract. Assumes nothing.
-use Rattle.messages.proofs.MessagesWays.{no-expiry, some-expiry}
+use Rattle.messages.proofs.MessagesExits.{no-expiry, some-expiry}
 use borrow.Author.Needs.{needs}
 use Rattle.messages.proofs.schedule_expiry.Statement.{statement}
 use Rattle.messages.proofs.schedule_expiry.Tie as tie

@@ -1,5 +1,5 @@
 -- `kernel::events::due_by` meets its contract. Assumes nothing.
-use Rattle.kernel.proofs.EventsWays.{due, not-due}
+use Rattle.kernel.proofs.EventsExits.{due, not-due}
 use Rattle.kernel.proofs.events.due_by.Statement.{statement}
 use Rattle.kernel.proofs.events.due_by.Tie as tie
 

@@ -2,7 +2,7 @@
 use mathlib.Core.Path.{sym, ap, _∙_}
 use Rattle.book.specs.Rows.{deliveryIn}
 use Rattle.rules.specs.Events.{nextDelivery}
-use Rattle.kernel.proofs.EventsWays.{front-none, front-some}
+use Rattle.kernel.proofs.EventsExits.{front-none, front-some}
 use borrow.Author.Needs.{needs}
 use Rattle.kernel.proofs.events.next_delivery.Statement.{statement}
 use Rattle.kernel.proofs.events.next_delivery.Tie as tie

@@ -2,7 +2,7 @@
 use mathlib.Core.Path.{sym, ap, _∙_}
 use Rattle.book.specs.Rows.{msgIn}
 use Rattle.rules.specs.Events.{nextMsg}
-use Rattle.kernel.proofs.EventsWays.{front-none, front-some}
+use Rattle.kernel.proofs.EventsExits.{front-none, front-some}
 use borrow.Author.Needs.{needs}
 use Rattle.kernel.proofs.events.next_msg.Statement.{statement}
 use Rattle.kernel.proofs.events.next_msg.Tie as tie

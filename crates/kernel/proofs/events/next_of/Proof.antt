@@ -1,7 +1,7 @@
 -- `kernel::events::next_of` meets its contract. Assumes nothing.
 use Rattle.book.specs.declared.state.KernelState.{KernelState}
 use Rattle.kernel.specs.Events.{withQueues}
-use Rattle.kernel.proofs.EventsWays.{soonest}
+use Rattle.kernel.proofs.EventsExits.{soonest}
 use borrow.Author.Needs.{needs}
 use Rattle.kernel.proofs.events.next_of.Statement.{statement}
 use Rattle.kernel.proofs.events.next_of.Tie as tie

@@ -1,5 +1,5 @@
--- `kernel::events::pop_observation` meets its contract, by the laws of `EventsWays`. Assumes nothing.
-use Rattle.kernel.proofs.EventsWays.{pop-none, pop-over, pop-pauses}
+-- `kernel::events::pop_observation` meets its contract, by the laws of `EventsExits`. Assumes nothing.
+use Rattle.kernel.proofs.EventsExits.{pop-none, pop-over, pop-pauses}
 use borrow.Author.Needs.{needs}
 use Rattle.kernel.proofs.events.pop_observation.Statement.{statement}
 use Rattle.kernel.proofs.events.pop_observation.Tie as tie

@@ -1,5 +1,5 @@
--- `kernel::events::sooner` meets its contract, by the laws of `EventsWays`. Assumes nothing.
-use Rattle.kernel.proofs.EventsWays.{sooner-none, sooner-only, sooner-first, sooner-second}
+-- `kernel::events::sooner` meets its contract, by the laws of `EventsExits`. Assumes nothing.
+use Rattle.kernel.proofs.EventsExits.{sooner-none, sooner-only, sooner-first, sooner-second}
 use borrow.Author.Needs.{needs}
 use native.Mathlib.Omega.{arith}
 use Rattle.kernel.proofs.events.sooner.Statement.{statement}

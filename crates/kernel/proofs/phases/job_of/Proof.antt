@@ -1,5 +1,5 @@
--- `kernel::phases::job_of` meets its contract, by the laws of `PhasesWays`. Assumes nothing.
-use Rattle.kernel.proofs.PhasesWays.{before-none, before-row, queued-none, queued-row, paused, over}
+-- `kernel::phases::job_of` meets its contract, by the laws of `PhasesExits`. Assumes nothing.
+use Rattle.kernel.proofs.PhasesExits.{before-none, before-row, queued-none, queued-row, paused, over}
 use borrow.Author.Needs.{needs}
 use Rattle.kernel.proofs.phases.job_of.Statement.{statement}
 use Rattle.kernel.proofs.phases.job_of.Tie as tie

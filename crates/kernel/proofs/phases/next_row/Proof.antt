@@ -1,5 +1,5 @@
--- `kernel::phases::next_row` meets its contract, by the laws of `PhasesWays`. Assumes nothing.
-use Rattle.kernel.proofs.PhasesWays.{next-end, next-over, next-on}
+-- `kernel::phases::next_row` meets its contract, by the laws of `PhasesExits`. Assumes nothing.
+use Rattle.kernel.proofs.PhasesExits.{next-end, next-over, next-on}
 use borrow.Author.Needs.{needs}
 use Rattle.kernel.proofs.phases.next_row.Statement.{statement}
 use Rattle.kernel.proofs.phases.next_row.Tie as tie

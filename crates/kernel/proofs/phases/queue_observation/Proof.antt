@@ -1,6 +1,6 @@
--- `kernel::phases::queue_observation` meets its contract, by the laws of `PhasesWays`. Assumes nothing.
+-- `kernel::phases::queue_observation` meets its contract, by the laws of `PhasesExits`. Assumes nothing.
 use borrow.Author.Tests.{not-true, not-false}
-use Rattle.kernel.proofs.PhasesWays.{obs-late, obs-full, obs-in}
+use Rattle.kernel.proofs.PhasesExits.{obs-late, obs-full, obs-in}
 use borrow.Author.Needs.{needs}
 use Rattle.kernel.proofs.phases.queue_observation.Statement.{statement}
 use Rattle.kernel.proofs.phases.queue_observation.Tie as tie

@@ -14,25 +14,25 @@ use Rattle.rules.specs.Run.{andThen, again}
 use Rattle.rules.specs.Matching.{sweep}
 use Rattle.rules.specs.Events.{runEvents}
 use Rattle.rules.specs.Phases.{queueObservation, matchPhase, nextRow, phaseTurn, phases, turns}
-use Rattle.reports.specs.Log.{logAt, note, played, seen}
+use Rattle.reports.specs.Log.{logAt, appendEvent, expected, actual}
 use Rattle.reports.specs.declared.Outcome.the-variants.{Ran}
 use Rattle.reports.specs.declared.Step.{Step}
-use Rattle.reports.proofs.Then.{played-halt, then-stop, Stopped}
-use Rattle.kernel.specs.Events.{lookedIn}
-use Rattle.kernel.specs.Phases.{worked, obsIn}
+use Rattle.reports.proofs.Then.{expected-halt, then-stop, Stopped}
+use Rattle.kernel.specs.Events.{obsTakenIn}
+use Rattle.kernel.specs.Phases.{worked, obsStepIn}
 use Rattle.matching.specs.Matching.{matchedIn, sweptIn}
 use Rattle.kernel.specs.declared.events.Class.the-variants.{Observation}
 use Rattle.kernel.specs.declared.phases.Work.{Work}
 use Rattle.kernel.specs.declared.phases.Work.the-variants.{Settle}
 use Rattle.matching.proofs.Idle.{idle}
-use Rattle.kernel.proofs.EventsWays.{walk-stops}
-use Rattle.kernel.proofs.PhasesWays.{marking, booked, Goes, goes-ran, goes-none, end-stops, obs-stops, walk-none, walk-left, onward-end, onward-to, settle-past, settle-is, match-past, match-is, swept-is, turn-of, work-of, phases-stop, phases-left, phases-on, phases-fall}
+use Rattle.kernel.proofs.EventsExits.{walk-stops}
+use Rattle.kernel.proofs.PhasesExits.{marking, booked, Goes, goes-ran, goes-none, end-stops, obs-stops, walk-none, walk-left, onward-end, onward-to, settle-past, settle-is, match-past, match-is, swept-is, turn-of, work-of, phases-stop, phases-left, phases-on, phases-fall}
 use borrow.Author.Needs.{needs}
 use Rattle.kernel.proofs.phases.run_phases.Statement.{statement}
 use Rattle.kernel.proofs.phases.run_phases.Tie as tie
 
 abbrev Inv-phases : tie.InvT-phases
-Inv-phases log₀ cfg rows s₀ n₀ log s n = (played (logAt log n) (phases cfg rows s) ≡ played (logAt log₀ n₀) (phases cfg rows s₀)) × (length log ≡ length log₀)
+Inv-phases log₀ cfg rows s₀ n₀ log s n = (expected (logAt log n) (phases cfg rows s) ≡ expected (logAt log₀ n₀) (phases cfg rows s₀)) × (length log ≡ length log₀)
 
 abbrev μ-phases : tie.MeasureT-phases
 μ-phases log₀ cfg rows s₀ n₀ log s n = turns rows s
@@ -44,7 +44,7 @@ first : (c : tie.After-enum-told3 Inv-phases μ-phases) →
     ≡ again (nextRow (d .args .cfg) (now (d .args .rows)) (b .phases .s))
 first c = turn-of _ _ (c .before .before .before .before .phases .s) (c .before .before .job-of .result) (c .before .before .job-of .ensures _ (c .before .before .before .before .phases .s)) (c .enum-told3 .given .1)
 
-goes-first : (c : tie.After-onward Inv-phases μ-phases) → record { outcome = Ran; state = withControl (c .before .before .before .before .before .before .before .phases .s) (c .onward .given .0 .0); log = logAt (c .before .before .before .before .before .before .before .phases .log) (c .before .before .before .before .before .before .before .phases .n) } ≡ played (logAt (c .before .before .before .before .before .before .before .phases .log) (c .before .before .before .before .before .before .before .phases .n)) (nextRow (c .before .before .before .before .before .before .before .before .before .before .args .cfg) (now (c .before .before .before .before .before .before .before .before .before .before .args .rows)) (c .before .before .before .before .before .before .before .phases .s))
+goes-first : (c : tie.After-onward Inv-phases μ-phases) → record { outcome = Ran; state = withControl (c .before .before .before .before .before .before .before .phases .s) (c .onward .given .0 .0); log = logAt (c .before .before .before .before .before .before .before .phases .log) (c .before .before .before .before .before .before .before .phases .n) } ≡ expected (logAt (c .before .before .before .before .before .before .before .phases .log) (c .before .before .before .before .before .before .before .phases .n)) (nextRow (c .before .before .before .before .before .before .before .before .before .before .args .cfg) (now (c .before .before .before .before .before .before .before .before .before .before .args .rows)) (c .before .before .before .before .before .before .before .phases .s))
 goes-first c =
     let b = c .before .before .before .before .before .before .before in
     onward-to _ _ _ (b .phases .s) (c .before .before .next-row .result) (c .before .before .next-row .ensures (b .phases .s)) _ (c .onward .given .1)
@@ -67,11 +67,11 @@ turn c g = turn-of _ _ (c .before .before .before .before .phases .s) (c .before
 leaves : (c : tie.After-job Inv-phases μ-phases) →
     let b = c .before .before .before .before in let d = b .before .before .before in
     (a : Step) (w : List ℕ)
-    → seen a w
-    ≡ played (logAt (b .phases .log) (b .phases .n)) (runEvents (d .args .cfg) (row-in c .«ts_ns») (b .phases .s))
+    → actual a w
+    ≡ expected (logAt (b .phases .log) (b .phases .n)) (runEvents (d .args .cfg) (row-in c .«ts_ns») (b .phases .s))
     → Stopped (a .outcome)
-    → seen a w
-    ≡ played (logAt (b .phases .log) (b .phases .n)) (phases (d .args .cfg) (now (d .args .rows)) (b .phases .s))
+    → actual a w
+    ≡ expected (logAt (b .phases .log) (b .phases .n)) (phases (d .args .cfg) (now (d .args .rows)) (b .phases .s))
 leaves c a w e m =
     let b = c .before .before .before .before in let d = b .before .before .before in
     phases-left _ _ (b .phases .s) _ (turn c refl) _ (walk-left _ (now (d .args .rows)) (index-in c) (row-in c) (b .phases .s) _ a w e m (work-in c)) m
@@ -88,11 +88,11 @@ walked c =
     (λ w. (ap length (w .2), goes-none _ _ _ (b .phases .s) (walk-none _ _ (b .phases .s) (c .before .next-of .result) (c .before .next-of .ensures (b .phases .s)) (w .1 .given .1)) (w .2) (w .3) (w .4)))
     (c .match3 .came)
 
--- ---- the row's end is told, then comes the next row
+-- ---- the row's end is written, then comes the next row
 settles : (c : tie.After-checked-add Inv-phases μ-phases) {m : ℕ} → c .checked-add .result ≡ Some m → {v : List ℕ} {k : ℕ}
-    → logAt v k ≡ note (logAt (c .before .match3 .log) (c .before .match3 .n)) (RowEnd (index-in (c .before .before .before .before .before .before .before)) (row-in (c .before .before .before .before .before .before .before) .«ts_ns»))
-    → played (logAt v k) (nextRow (c .before .before .before .before .before .before .before .before .before .before .before .before .before .before .args .cfg) (now (c .before .before .before .before .before .before .before .before .before .before .before .before .before .before .args .rows)) (c .before .match3 .s))
-    ≡ played (logAt (c .before .before .before .before .before .before .before .before .before .before .before .phases .log) (c .before .before .before .before .before .before .before .before .before .before .before .phases .n)) (worked Settle (c .before .before .before .before .before .before .before .before .before .before .before .before .before .before .args .cfg) (now (c .before .before .before .before .before .before .before .before .before .before .before .before .before .before .args .rows)) (index-in (c .before .before .before .before .before .before .before)) (row-in (c .before .before .before .before .before .before .before)) (c .before .before .before .before .before .before .before .before .before .before .before .phases .s))
+    → logAt v k ≡ appendEvent (logAt (c .before .match3 .log) (c .before .match3 .n)) (RowEnd (index-in (c .before .before .before .before .before .before .before)) (row-in (c .before .before .before .before .before .before .before) .«ts_ns»))
+    → expected (logAt v k) (nextRow (c .before .before .before .before .before .before .before .before .before .before .before .before .before .before .args .cfg) (now (c .before .before .before .before .before .before .before .before .before .before .before .before .before .before .args .rows)) (c .before .match3 .s))
+    ≡ expected (logAt (c .before .before .before .before .before .before .before .before .before .before .before .phases .log) (c .before .before .before .before .before .before .before .before .before .before .before .phases .n)) (worked Settle (c .before .before .before .before .before .before .before .before .before .before .before .before .before .before .args .cfg) (now (c .before .before .before .before .before .before .before .before .before .before .before .before .before .before .args .rows)) (index-in (c .before .before .before .before .before .before .before)) (row-in (c .before .before .before .before .before .before .before)) (c .before .before .before .before .before .before .before .before .before .before .before .phases .s))
 settles c h e =
     let b = c .before .before .before .before .before .before .before in let d = b .before .before .before .before in
     settle-is _ _ _ _ (row-in b) (d .phases .s) _ _ (c .before .match3 .s) (walked (c .before) .1) (c .checked-add .result) (c .checked-add .ensures) _ h _ _ e
@@ -104,8 +104,8 @@ at-match c = marking (c .before .before .before .before .before .before .before 
 matches : (c : tie.After-mark Inv-phases μ-phases) →
     let b = c .before .before .before .before .before .before .before .before .before .before in let d = b .before .before .before .before .before .before in
     let e = d .before .before .before .before in let f = e .before .before .before in
-    played (logAt (b .match3 .log) (b .match3 .n)) (andThen (booked (f .args .cfg) (row-in d) (at-match c)) (queueObservation (f .args .cfg) (index-in d) (row-in d)))
-    ≡ played (logAt (e .phases .log) (e .phases .n)) (matchPhase (f .args .cfg) (index-in d) (row-in d) (e .phases .s))
+    expected (logAt (b .match3 .log) (b .match3 .n)) (andThen (booked (f .args .cfg) (row-in d) (at-match c)) (queueObservation (f .args .cfg) (index-in d) (row-in d)))
+    ≡ expected (logAt (e .phases .log) (e .phases .n)) (matchPhase (f .args .cfg) (index-in d) (row-in d) (e .phases .s))
 matches c =
     let b = c .before .before .before in let d = b .before .before .before in let e = d .before .before .before in let f = e .before in
     let g = f .before .before .before .before .before .before in let h = g .before .before .before .before in
@@ -134,8 +134,8 @@ queued : (c : tie.After-queue-observation Inv-phases μ-phases) →
     let b = c .before .before .before .before in
     let d = b .before .before .before .before .before .before .before .before .before .before .before .before .before .before .before .before .before .before .before in
     let e = d .before .before .before .before in let f = e .before .before .before in
-    seen (obsIn (b .if1 .s) (b .if1 .n) (c .queue-observation .result)) (b .if1 .log)
-    ≡ played (logAt (e .phases .log) (e .phases .n)) (matchPhase (f .args .cfg) (index-in d) (row-in d) (e .phases .s))
+    actual (obsStepIn (b .if1 .s) (b .if1 .n) (c .queue-observation .result)) (b .if1 .log)
+    ≡ expected (logAt (e .phases .log) (e .phases .n)) (matchPhase (f .args .cfg) (index-in d) (row-in d) (e .phases .s))
 queued c =
     let b = c .before .before .before .before in let d = b .before .before .before in
     c .queue-observation .ensures (b .if1 .s) (b .if1 .n) (b .if1 .log) ∙ matched b .1 (queueObservation _ _ _) ∙ matches d
@@ -196,7 +196,7 @@ returns-2 c =
     let b = c .before .before .before .before in
     phases-left _ _ (b .phases .s) _
     (turn-of _ _ (b .phases .s) (c .before .before .job-of .result) (c .before .before .job-of .ensures _ (b .phases .s)) (c .enum-told2 .given .1)) _
-    (played-halt _ _ _) (inr (inl refl)) ∙ b .phases .inv .0
+    (expected-halt _ _ _) (inr (inl refl)) ∙ b .phases .inv .0
 
 -- no first row: the data ends
 returns-3 : tie.Need-returns-3 Inv-phases μ-phases
@@ -212,15 +212,15 @@ looks c =
     let b = c .before .before .before .before in let d = b .before in let e = d .before .before .before in let f = e .before .before in
     let g = f .before .before .before .before .before .before .before .before .before in
     obs-stops _ _ (g .phases .s) (f .next-of .result) (f .next-of .ensures (g .phases .s)) _ _ (e .next .given .1) (d .enum-told5 .given .1) _ (b .max .ensures) _
-    (lookedIn (g .phases .s) (b .max .result) (c .pop-observation .result)) _ (c .pop-observation .ensures (g .phases .s))
+    (obsTakenIn (g .phases .s) (b .max .result) (c .pop-observation .result)) _ (c .pop-observation .ensures (g .phases .s))
 
 returns-4 : tie.Need-returns-4 Inv-phases μ-phases
 returns-4 c =
     let b = c .before .before .before .before .before in let d = b .before .before .before .before in let e = d .before in let f = e .before .before .before in
     let g = f .before .before in let h = g .before .before .before .before .before in let i = h .before .before .before .before in
-    leaves h (lookedIn (i .phases .s) (d .max .result) (b .pop-observation .result)) _
+    leaves h (obsTakenIn (i .phases .s) (d .max .result) (b .pop-observation .result)) _
     (walk-stops _ _ (i .phases .s) (g .next-of .result) (g .next-of .ensures (i .phases .s)) _ _ _ _ (f .next .given .1) Observation (d .max .result) (e .enum-told5 .given .1) (d .max .ensures)
-    (lookedIn (i .phases .s) (d .max .result) (b .pop-observation .result)) _ (b .pop-observation .ensures (i .phases .s)) (looks b))
+    (obsTakenIn (i .phases .s) (d .max .result) (b .pop-observation .result)) _ (b .pop-observation .ensures (i .phases .s)) (looks b))
     (looks b) ∙ i .phases .inv .0
 
 -- the walk is left

@@ -5,7 +5,7 @@ use mathlib.Core.List.{_++_}
 use native.Mathlib.Omega.{arith}
 use lib.ListN.{length, length-set, take, drop}
 use borrow.Author.Needs.{needs}
-use Rattle.reports.proofs.Notes.{copy-turn, twelve, no-room, copied}
+use Rattle.reports.proofs.Append.{copy-turn, twelve, no-room, copied}
 use Rattle.reports.proofs.log.write_event.Statement.{statement}
 use Rattle.reports.proofs.log.write_event.Tie as tie
 

@@ -1,5 +1,5 @@
--- `reports::report::queue_delivery` meets its contract, by the laws of `ReportWays`. Assumes nothing.
-use Rattle.reports.proofs.ReportWays.{queue-stop, queue-in, queue-full}
+-- `reports::report::queue_delivery` meets its contract, by the laws of `ReportExits`. Assumes nothing.
+use Rattle.reports.proofs.ReportExits.{queue-stop, queue-in, queue-full}
 use borrow.Author.Needs.{needs}
 use Rattle.reports.proofs.report.queue_delivery.Statement.{statement}
 use Rattle.reports.proofs.report.queue_delivery.Tie as tie

@@ -1,5 +1,5 @@
--- `reports::report::report_on` meets its contract, by the laws of `ReportWays`. Assumes nothing.
-use Rattle.reports.proofs.ReportWays.{report-late, report-told}
+-- `reports::report::report_on` meets its contract, by the laws of `ReportExits`. Assumes nothing.
+use Rattle.reports.proofs.ReportExits.{report-late, report-raised}
 use borrow.Author.Needs.{needs}
 use Rattle.reports.proofs.report.report_on.Statement.{statement}
 use Rattle.reports.proofs.report.report_on.Tie as tie
@@ -15,4 +15,4 @@ report-on-spec =
     (λ c κs. search needs)
     (λ c. search needs)
     (λ c. let b = c .before .before .before .before in let d = b .before .before in let e = d .before .before in
-    report-told _ _ _ _ _ _ (e .delayed .result) (e .delayed .ensures) _ _ _ _ (d .time .given .1) (b .max .ensures) (c .before .before .emit .ensures)))
+    report-raised _ _ _ _ _ _ (e .delayed .result) (e .delayed .ensures) _ _ _ _ (d .time .given .1) (b .max .ensures) (c .before .before .emit .ensures)))

@@ -1,12 +1,12 @@
 -- `runtext::line::fill_line` meets its contract. Assumes nothing.
 use borrow.Author.Needs.{needs}
 use Rattle.numbers.specs.Choice.{pick}
-use Rattle.runtext.specs.Lines.{fillLine}
+use Rattle.runtext.specs.Lines.{fillModeLine}
 use Rattle.runtext.proofs.line.fill_line.Statement.{statement}
 use Rattle.runtext.proofs.line.fill_line.Tie as tie
 
 pub fill-line-spec : {M : Type 1} → statement M
-unfolding fillLine pick
+unfolding fillModeLine pick
 fill-line-spec =
     tie.close (tie.spec
     (λ c κs. search needs)

@@ -1,9 +1,9 @@
--- `book::account::AgentAccount::position` meets its contract, by the laws of `Loops` and `Ways`. Assumes nothing.
+-- `book::account::AgentAccount::position` meets its contract, by the laws of `Loops` and `Exits`. Assumes nothing.
 use Prim.Native.Nat.{_-_}
 use borrow.Author.Tests.{eq-eqb, ne-eqb}
 use native.Mathlib.Omega.{arith}
 use Rattle.lists.proofs.Loops.{Searching, search-begin, search-turn}
-use Rattle.lists.proofs.Ways.{found-over, found-in, found-past}
+use Rattle.lists.proofs.Exits.{found-over, found-in, found-past}
 use Rattle.book.specs.Entries.{blankOpen, isOpenOf}
 use Rattle.book.proofs.Long.{account-long}
 use Rattle.book.proofs.account.AgentAccount.position.Statement.{statement}

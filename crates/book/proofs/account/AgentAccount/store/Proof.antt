@@ -1,7 +1,7 @@
--- `book::account::AgentAccount::store` meets its contract, by the laws of `Ways`. Assumes nothing.
+-- `book::account::AgentAccount::store` meets its contract, by the laws of `Exits`. Assumes nothing.
 use borrow.Author.Needs.{needs}
 use native.Mathlib.Omega.{arith}
-use Rattle.lists.proofs.Ways.{store-over, store-past, store-in}
+use Rattle.lists.proofs.Exits.{store-over, store-past, store-in}
 use Rattle.book.proofs.account.AgentAccount.store.Statement.{statement}
 use Rattle.book.proofs.account.AgentAccount.store.Tie as tie
 

@@ -1,7 +1,7 @@
--- `book::deliveries::Deliveries::get` meets its contract, by the laws of `Ways`. Assumes nothing.
+-- `book::deliveries::Deliveries::get` meets its contract, by the laws of `Exits`. Assumes nothing.
 use borrow.Author.Needs.{needs}
 use native.Mathlib.Omega.{arith}
-use Rattle.lists.proofs.Ways.{entry-over, entry-past, entry-in}
+use Rattle.lists.proofs.Exits.{entry-over, entry-past, entry-in}
 use Rattle.book.proofs.deliveries.Deliveries.get.Statement.{statement}
 use Rattle.book.proofs.deliveries.Deliveries.get.Tie as tie
 

@@ -1,7 +1,7 @@
--- `book::deliveries::Deliveries::push` meets its contract, by the laws of `Ways`. Assumes nothing.
+-- `book::deliveries::Deliveries::push` meets its contract, by the laws of `Exits`. Assumes nothing.
 use borrow.Author.Needs.{needs}
 use native.Mathlib.Omega.{arith}
-use Rattle.lists.proofs.Ways.{put-full, push-in}
+use Rattle.lists.proofs.Exits.{put-full, push-in}
 use Rattle.book.proofs.Long.{deliveries-long}
 use Rattle.book.proofs.deliveries.Deliveries.push.Statement.{statement}
 use Rattle.book.proofs.deliveries.Deliveries.push.Tie as tie

@@ -1,9 +1,9 @@
--- `book::deliveries::Deliveries::remove` meets its contract, by the laws of `Loops` and `Ways`. Assumes nothing.
+-- `book::deliveries::Deliveries::remove` meets its contract, by the laws of `Loops` and `Exits`. Assumes nothing.
 use Prim.Native.Nat.{_-_}
 use borrow.Author.Needs.{needs}
 use native.Mathlib.Omega.{arith}
 use Rattle.lists.proofs.Loops.{Removing, remove-begin, remove-turn}
-use Rattle.lists.proofs.Ways.{take-over, take-past, take-in}
+use Rattle.lists.proofs.Exits.{take-over, take-past, take-in}
 use Rattle.book.specs.Entries.{blankDelivery}
 use Rattle.book.proofs.Long.{deliveries-long}
 use Rattle.book.proofs.deliveries.Deliveries.remove.Statement.{statement}

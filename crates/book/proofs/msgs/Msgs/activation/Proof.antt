@@ -1,10 +1,10 @@
--- `book::msgs::Msgs::activation` meets its contract, by the laws of `Loops` and `Ways`. Assumes nothing.
+-- `book::msgs::Msgs::activation` meets its contract, by the laws of `Loops` and `Exits`. Assumes nothing.
 use Prim.Native.Nat.{_-_}
 use mathlib.Core.Path.{sym, _∙_}
 use borrow.Author.Needs.{needs}
 use native.Mathlib.Omega.{arith}
 use Rattle.lists.proofs.Loops.{Searching, search-begin, search-turn}
-use Rattle.lists.proofs.Ways.{found-over, found-in, found-past}
+use Rattle.lists.proofs.Exits.{found-over, found-in, found-past}
 use Rattle.book.specs.Entries.{blankMsg, isActivation}
 use Rattle.book.proofs.Long.{msgs-long}
 use Rattle.book.proofs.msgs.Msgs.activation.Statement.{statement}

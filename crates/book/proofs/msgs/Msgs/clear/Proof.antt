@@ -1,9 +1,9 @@
--- `book::msgs::Msgs::clear` meets its contract, by the laws of `Loops` and `Ways`. Assumes nothing.
+-- `book::msgs::Msgs::clear` meets its contract, by the laws of `Loops` and `Exits`. Assumes nothing.
 use Prim.Native.Nat.{_-_}
 use borrow.Author.Needs.{needs}
 use native.Mathlib.Omega.{arith}
 use Rattle.lists.proofs.Loops.{Emptying, empty-begin, empty-turn}
-use Rattle.lists.proofs.Ways.{empty-over, empty-in}
+use Rattle.lists.proofs.Exits.{empty-over, empty-in}
 use Rattle.book.proofs.Long.{msgs-long}
 use Rattle.book.proofs.msgs.Msgs.clear.Statement.{statement}
 use Rattle.book.proofs.msgs.Msgs.clear.Tie as tie

@@ -1,10 +1,10 @@
--- `book::msgs::Msgs::place_by_key` meets its contract, by the laws of `Loops` and `Ways`. Assumes nothing.
+-- `book::msgs::Msgs::place_by_key` meets its contract, by the laws of `Loops` and `Exits`. Assumes nothing.
 use Prim.Native.Nat.{_-_}
 use mathlib.Core.Path.{sym, _∙_}
 use borrow.Author.Needs.{needs}
 use native.Mathlib.Omega.{arith}
 use Rattle.lists.proofs.Loops.{Searching, search-begin, search-turn}
-use Rattle.lists.proofs.Ways.{before-over, before-in, before-past}
+use Rattle.lists.proofs.Exits.{before-over, before-in, before-past}
 use Rattle.book.specs.Entries.{blankMsg, isLater}
 use Rattle.book.proofs.Long.{msgs-long}
 use Rattle.book.proofs.msgs.Msgs.place_by_key.Statement.{statement}

@@ -1,9 +1,9 @@
--- `book::msgs::Msgs::remove` meets its contract, by the laws of `Loops` and `Ways`. Assumes nothing.
+-- `book::msgs::Msgs::remove` meets its contract, by the laws of `Loops` and `Exits`. Assumes nothing.
 use Prim.Native.Nat.{_-_}
 use borrow.Author.Needs.{needs}
 use native.Mathlib.Omega.{arith}
 use Rattle.lists.proofs.Loops.{Removing, remove-begin, remove-turn}
-use Rattle.lists.proofs.Ways.{take-over, take-past, take-in}
+use Rattle.lists.proofs.Exits.{take-over, take-past, take-in}
 use Rattle.book.specs.Entries.{blankMsg}
 use Rattle.book.proofs.Long.{msgs-long}
 use Rattle.book.proofs.msgs.Msgs.remove.Statement.{statement}

@@ -1,7 +1,7 @@
--- `book::observed::Observed::get` meets its contract, by the laws of `Ways`. Assumes nothing.
+-- `book::observed::Observed::get` meets its contract, by the laws of `Exits`. Assumes nothing.
 use borrow.Author.Needs.{needs}
 use native.Mathlib.Omega.{arith}
-use Rattle.lists.proofs.Ways.{entry-over, entry-past, entry-in}
+use Rattle.lists.proofs.Exits.{entry-over, entry-past, entry-in}
 use Rattle.book.proofs.observed.Observed.get.Statement.{statement}
 use Rattle.book.proofs.observed.Observed.get.Tie as tie
 

@@ -1,8 +1,8 @@
--- `book::orders::Orders::insert` meets its contract, by the laws of `Loops` and `Ways`. Assumes nothing.
+-- `book::orders::Orders::insert` meets its contract, by the laws of `Loops` and `Exits`. Assumes nothing.
 use Prim.Native.Nat.{_-_}
 use native.Mathlib.Omega.{arith}
 use Rattle.lists.proofs.Loops.{Inserting, insert-begin, insert-turn}
-use Rattle.lists.proofs.Ways.{put-full, put-past, put-in}
+use Rattle.lists.proofs.Exits.{put-full, put-past, put-in}
 use Rattle.book.specs.Entries.{blankOrder}
 use Rattle.book.proofs.Long.{orders-long}
 use Rattle.book.proofs.orders.Orders.insert.Statement.{statement}

@@ -1,9 +1,9 @@
--- `book::orders::Orders::place_by_id` meets its contract, by the laws of `Loops` and `Ways`. Assumes nothing.
+-- `book::orders::Orders::place_by_id` meets its contract, by the laws of `Loops` and `Exits`. Assumes nothing.
 use Prim.Native.Nat.{_-_}
 use borrow.Author.Tests.{lt-ltb, le-ltb}
 use native.Mathlib.Omega.{arith}
 use Rattle.lists.proofs.Loops.{Searching, search-begin, search-turn}
-use Rattle.lists.proofs.Ways.{before-over, before-in, before-past}
+use Rattle.lists.proofs.Exits.{before-over, before-in, before-past}
 use Rattle.book.specs.Entries.{blankOrder, idAbove}
 use Rattle.book.proofs.Long.{orders-long}
 use Rattle.book.proofs.orders.Orders.place_by_id.Statement.{statement}

@@ -1,9 +1,9 @@
--- `book::orders::Orders::position` meets its contract, by the laws of `Loops` and `Ways`. Assumes nothing.
+-- `book::orders::Orders::position` meets its contract, by the laws of `Loops` and `Exits`. Assumes nothing.
 use Prim.Native.Nat.{_-_}
 use borrow.Author.Tests.{eq-eqb, ne-eqb}
 use native.Mathlib.Omega.{arith}
 use Rattle.lists.proofs.Loops.{Searching, search-begin, search-turn}
-use Rattle.lists.proofs.Ways.{found-over, found-in, found-past}
+use Rattle.lists.proofs.Exits.{found-over, found-in, found-past}
 use Rattle.book.specs.Entries.{blankOrder, hasId}
 use Rattle.book.proofs.Long.{orders-long}
 use Rattle.book.proofs.orders.Orders.position.Statement.{statement}

@@ -1,7 +1,7 @@
--- `book::orders::Orders::store` meets its contract, by the laws of `Ways`. Assumes nothing.
+-- `book::orders::Orders::store` meets its contract, by the laws of `Exits`. Assumes nothing.
 use borrow.Author.Needs.{needs}
 use native.Mathlib.Omega.{arith}
-use Rattle.lists.proofs.Ways.{store-over, store-past, store-in}
+use Rattle.lists.proofs.Exits.{store-over, store-past, store-in}
 use Rattle.book.proofs.orders.Orders.store.Statement.{statement}
 use Rattle.book.proofs.orders.Orders.store.Tie as tie
 

@@ -1,4 +1,4 @@
--- `delivery::tell_dropped` meets its contract: what is left of the messages is told as the whole is. Assumes nothing.
+-- `delivery::emit_dropped` meets its contract: the events of what is left of the messages stand behind those before them. Assumes nothing.
 use Prim.Native.Nat.{_-_, _≤_}
 use mathlib.Core.List.{map}
 use mathlib.Core.Path.{_≡_, refl, _∙_}
@@ -6,22 +6,22 @@ use lib.ListN.{length, take, drop}
 use Rattle.book.specs.Entries.{blankMsg}
 use Rattle.book.proofs.Long.{msgs-long}
 use Rattle.rules.specs.Delivery.{droppedEvent}
-use Rattle.reports.specs.Log.{logAt, noted}
-use Rattle.delivery.proofs.DeliveryWays.{dropped-none, dropped-turn, dropped-all}
+use Rattle.reports.specs.Log.{logAt, appendEvents}
+use Rattle.delivery.proofs.DeliveryExits.{dropped-none, dropped-turn, dropped-all}
 use borrow.Author.Needs.{needs}
 use native.Mathlib.Omega.{arith}
-use Rattle.delivery.proofs.tell_dropped.Statement.{statement}
-use Rattle.delivery.proofs.tell_dropped.Tie as tie
+use Rattle.delivery.proofs.emit_dropped.Statement.{statement}
+use Rattle.delivery.proofs.emit_dropped.Tie as tie
 
 abbrev Inv-loop : tie.InvT-loop
 Inv-loop log₀ raised list count n₀ i₀ log n i = (i ≤ count) × (length log ≡ length log₀)
-    × (noted (logAt log n) (map droppedEvent (drop i (take count (list .slots)))) ≡ noted (logAt log₀ n₀) (map droppedEvent (take count (list .slots))))
+    × (appendEvents (logAt log n) (map droppedEvent (drop i (take count (list .slots)))) ≡ appendEvents (logAt log₀ n₀) (map droppedEvent (take count (list .slots))))
 
 abbrev μ-loop : tie.MeasureT-loop
 μ-loop log₀ raised list count n₀ i₀ log n i = count - i
 
-pub tell-dropped-spec : {M : Type 1} → statement M
-tell-dropped-spec =
+pub emit-dropped-spec : {M : Type 1} → statement M
+emit-dropped-spec =
     tie.close (tie.spec Inv-loop μ-loop
     (λ c. dropped-none _ _ _ (c .if1 .taken))
     (λ c. (omega arith, refl, refl))

@@ -18,30 +18,30 @@ use Rattle.book.specs.declared.state.Clock.{Clock}
 use Rattle.book.specs.declared.state.HaltReason.the-variants.{TimeOverflow, CounterOverflow}
 use Rattle.book.specs.declared.state.KernelEvent.the-variants.{Report}
 use Rattle.book.specs.declared.state.KernelState.{KernelState}
-use Rattle.models.specs.Told.{delayTold}
+use Rattle.models.specs.Rules.{ruleDelay}
 use Rattle.models.specs.declared.latency.Arrival.{Arrival}
 use Rattle.rules.specs.Run as rules
 use Rattle.rules.specs.Report.{delay, delayed, pushDelivery, reported, queueDelivery}
-use Rattle.reports.specs.Log.{logAt, note, noted, Seen, played, seen}
+use Rattle.reports.specs.Log.{logAt, appendEvent, appendEvents, StepResult, expected, actual}
 use Rattle.reports.specs.Report.{withReport, reportedIn, withQueue, queuedIn}
 use Rattle.reports.specs.declared.Outcome.the-variants.{Ran, Halt}
 use Rattle.reports.specs.declared.report.Reported.{Reported}
 use Rattle.reports.proofs.Then.{Stopped, then-stop, then-on}
 
--- ---- a report that is told
+-- ---- a report whose event is raised
 module _ (w : List ℕ) (raised : ℕ) (cfg : Config) (report : ReportRec) (rng : ℕ) (clock : Clock)
-    (a : Arrival) (e : delayTold a ≡ delay cfg rng (report .«ts_ns») (cfg .«ack_q»)) where
+    (a : Arrival) (e : ruleDelay a ≡ delay cfg rng (report .«ts_ns») (cfg .«ack_q»)) where
   pub report-late : a .time ≡ None → (s : KernelState)
-      → seen (reportedIn s (record { outcome = Halt TimeOverflow; «rng_latency» = a .rng; clock = clock; raised = raised })) w
-      ≡ played (logAt w raised) (reported cfg report (withReport s rng clock))
-  unfolding reported delayed onWord played noted
+      → actual (reportedIn s (record { outcome = Halt TimeOverflow; «rng_latency» = a .rng; clock = clock; raised = raised })) w
+      ≡ expected (logAt w raised) (reported cfg report (withReport s rng clock))
+  unfolding reported delayed onWord expected appendEvents
   report-late h s = rw (← e, h)
 
-  pub report-told : (at when n : ℕ) (w1 : List ℕ) → a .time ≡ Some at → when ≡ max at (clock .«last_delivery_ns») → logAt w1 n ≡ note (logAt w raised) (Report report) → (s : KernelState)
-      → seen (reportedIn s (record { outcome = Ran; «rng_latency» = a .rng; clock = clockLastDeliveryNs clock when; raised = n })) w1
-      ≡ played (logAt w raised) (reported cfg report (withReport s rng clock))
-  unfolding reported delayed onWord played noted
-  report-told at when n w1 h m em s = rw (← e, h, ← m, ← em)
+  pub report-raised : (at when n : ℕ) (w1 : List ℕ) → a .time ≡ Some at → when ≡ max at (clock .«last_delivery_ns») → logAt w1 n ≡ appendEvent (logAt w raised) (Report report) → (s : KernelState)
+      → actual (reportedIn s (record { outcome = Ran; «rng_latency» = a .rng; clock = clockLastDeliveryNs clock when; raised = n })) w1
+      ≡ expected (logAt w raised) (reported cfg report (withReport s rng clock))
+  unfolding reported delayed onWord expected appendEvents
+  report-raised at when n w1 h m em s = rw (← e, h, ← m, ← em)
 
 -- ---- a report, then its delivery
 -- the push at the time that the clock has
@@ -49,27 +49,27 @@ abbrev pub push-of : ReportRec → MaybeFill → KernelState → rules.Run
 push-of r f t = pushDelivery (record { «at_ns» = t .clock .«last_delivery_ns»; report = r; fill = f }) t
 
 module _ (w w1 : List ℕ) (raised : ℕ) (cfg : Config) (report : ReportRec) (fill : MaybeFill) (rng : ℕ) (clock : Clock) (deliveries : Deliveries)
-    (a : Reported) (e : (s : KernelState) → seen (reportedIn s a) w1 ≡ played (logAt w raised) (reported cfg report (withReport s rng clock))) where
+    (a : Reported) (e : (s : KernelState) → actual (reportedIn s a) w1 ≡ expected (logAt w raised) (reported cfg report (withReport s rng clock))) where
   pub queue-stop : Stopped (a .outcome) → (s : KernelState)
-      → seen (queuedIn s (record { outcome = a .outcome; «rng_latency» = a .«rng_latency»; clock = a .clock; deliveries = deliveries; raised = a .raised })) w1
-      ≡ played (logAt w raised) (queueDelivery cfg report fill (withQueue s rng clock deliveries))
+      → actual (queuedIn s (record { outcome = a .outcome; «rng_latency» = a .«rng_latency»; clock = a .clock; deliveries = deliveries; raised = a .raised })) w1
+      ≡ expected (logAt w raised) (queueDelivery cfg report fill (withQueue s rng clock deliveries))
   unfolding queueDelivery
   queue-stop m s = then-stop (logAt w raised) _ (push-of report fill) (reportedIn (withDeliveries s deliveries) a) w1 (e (withDeliveries s deliveries)) m
 
   module _ (h : a .outcome ≡ Ran) (put : DeliveriesPut)
       (p : deliveriesPut put ≡ pushed 24 (record { «at_ns» = a .clock .«last_delivery_ns»; report = report; fill = fill }) (deliveriesRow deliveries)) where
     -- what the push leaves is what the whole leaves
-    pushes : (s : KernelState) {x : Seen} → x ≡ played (logAt w1 (a .raised)) (push-of report fill (withQueue s (a .«rng_latency») (a .clock) deliveries))
-        → x ≡ played (logAt w raised) (queueDelivery cfg report fill (withQueue s rng clock deliveries))
+    pushes : (s : KernelState) {x : StepResult} → x ≡ expected (logAt w1 (a .raised)) (push-of report fill (withQueue s (a .«rng_latency») (a .clock) deliveries))
+        → x ≡ expected (logAt w raised) (queueDelivery cfg report fill (withQueue s rng clock deliveries))
     unfolding queueDelivery
     pushes s q = then-on (logAt w raised) _ (push-of report fill) (reportedIn (withDeliveries s deliveries) a) w1 (e (withDeliveries s deliveries)) h q
 
     pub queue-in : put .ok ≡ true → (s : KernelState)
-        → seen (queuedIn s (record { outcome = Ran; «rng_latency» = a .«rng_latency»; clock = a .clock; deliveries = put .list; raised = a .raised })) w1
-        ≡ played (logAt w raised) (queueDelivery cfg report fill (withQueue s rng clock deliveries))
-    queue-in o s = pushes s (unfold pushDelivery rules.putting pick played noted in rw (← p, o))
+        → actual (queuedIn s (record { outcome = Ran; «rng_latency» = a .«rng_latency»; clock = a .clock; deliveries = put .list; raised = a .raised })) w1
+        ≡ expected (logAt w raised) (queueDelivery cfg report fill (withQueue s rng clock deliveries))
+    queue-in o s = pushes s (unfold pushDelivery rules.putting pick expected appendEvents in rw (← p, o))
 
     pub queue-full : put .ok ≡ false → (s : KernelState)
-        → seen (queuedIn s (record { outcome = Halt CounterOverflow; «rng_latency» = a .«rng_latency»; clock = a .clock; deliveries = deliveries; raised = a .raised })) w1
-        ≡ played (logAt w raised) (queueDelivery cfg report fill (withQueue s rng clock deliveries))
-    queue-full o s = pushes s (unfold pushDelivery rules.putting pick played noted in rw (← p, o))
+        → actual (queuedIn s (record { outcome = Halt CounterOverflow; «rng_latency» = a .«rng_latency»; clock = a .clock; deliveries = deliveries; raised = a .raised })) w1
+        ≡ expected (logAt w raised) (queueDelivery cfg report fill (withQueue s rng clock deliveries))
+    queue-full o s = pushes s (unfold pushDelivery rules.putting pick expected appendEvents in rw (← p, o))

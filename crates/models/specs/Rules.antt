@@ -8,21 +8,21 @@ use Rattle.rules.specs.Delivery as rules
 use Rattle.models.specs.declared.rng.Drawn.{Drawn}
 use Rattle.models.specs.declared.latency.Arrival.{Arrival}
 use Rattle.models.specs.declared.gate.Gated.{Gated}
-use Rattle.models.specs.declared.gate.Gated.the-variants.{Fail, Kept}
+use Rattle.models.specs.declared.gate.Gated.the-variants.{Fail, Done}
 use Rattle.models.specs.declared.account.Effect.{Effect}
 use Rattle.models.specs.declared.account.Effect.the-variants.{Stands, Closes, Awaits}
 
-abbrev pub drawn : Drawn → Draw
-drawn d = record { rng = d .rng .state; value = d .value }
+abbrev pub ruleDraw : Drawn → Draw
+ruleDraw d = record { rng = d .rng .state; value = d .value }
 
-abbrev pub delayTold : Arrival → Delay
-delayTold a = record { rng = a .rng; time = a .time }
+abbrev pub ruleDelay : Arrival → Delay
+ruleDelay a = record { rng = a .rng; time = a .time }
 
-abbrev pub gateTold : Gated → Option GateState
-gateTold Fail = none
-gateTold (Kept g) = some g
+abbrev pub ruleGate : Gated → Option GateState
+ruleGate Fail = none
+ruleGate (Done g) = some g
 
-abbrev pub effectTold : Effect → rules.Effect
-effectTold Stands = rules.stands
-effectTold Closes = rules.closes
-effectTold Awaits = rules.awaits
+abbrev pub ruleEffect : Effect → rules.Effect
+ruleEffect Stands = rules.stands
+ruleEffect Closes = rules.closes
+ruleEffect Awaits = rules.awaits

@@ -36,59 +36,59 @@ use Rattle.book.specs.declared.state.KernelState.{KernelState}
 use Rattle.rules.specs.Run as rules
 use Rattle.rules.specs.Report.{reportAt, queueDelivery}
 use Rattle.rules.specs.Messages.{release, awaitMarked, removeExpiry, activation, cancelBooked, onActivation, cancelPending, cancelAwaiting, cancel, expireBooked, expire, applyNextMsg}
-use Rattle.reports.specs.Log.{logAt, note, Seen, played, seen, stampedAt}
+use Rattle.reports.specs.Log.{logAt, appendEvent, StepResult, expected, actual, stampedAt}
 use Rattle.reports.specs.declared.Outcome.the-variants.{Ran}
 use Rattle.reports.specs.declared.Step.{Step}
-use Rattle.reports.proofs.Then.{Stopped, played-ran, then-stop, then-on, raise-on, stamp-on, stamp-full, sent, take-on, take-none}
-use Rattle.messages.proofs.MessagesWays.{ranStep, haltStep}
+use Rattle.reports.proofs.Then.{Stopped, expected-ran, then-stop, then-on, raise-on, stamp-on, stamp-full, sent, take-on, take-none}
+use Rattle.messages.proofs.MessagesExits.{ranStep, haltStep}
 
 -- ---- a booked order
 module _ (w : List ℕ) (raised seq index : ℕ) (cfg : Config) (s : KernelState)
     (taken : OrdersTaken) (et : ordersTaken taken ≡ takeAt 8 blankOrder index (ordersRow (s .orders))) where
-  pub booked-none : taken .got ≡ maybe.None → seen (ranStep s raised) w ≡ played (logAt w raised) (cancelBooked cfg (stampedAt seq s) index s)
+  pub booked-none : taken .got ≡ maybe.None → actual (ranStep s raised) w ≡ expected (logAt w raised) (cancelBooked cfg (stampedAt seq s) index s)
   unfolding cancelBooked
-  booked-none h = take-none _ _ _ _ (ordersTaken taken) et (ap orderIn h) (played-ran _ s)
+  booked-none h = take-none _ _ _ _ (ordersTaken taken) et (ap orderIn h) (expected-ran _ s)
 
-  module _ (o : VenueOrder) (h : taken .got ≡ maybe.Some o) (a : Step) (ea : (v : List ℕ) → seen a v ≡ played (logAt v raised) (release o (withOrders s (taken .list)))) where
-    pub booked-unreleased : Stopped (a .outcome) → seen a w ≡ played (logAt w raised) (cancelBooked cfg (stampedAt seq s) index s)
+  module _ (o : VenueOrder) (h : taken .got ≡ maybe.Some o) (a : Step) (ea : (v : List ℕ) → actual a v ≡ expected (logAt v raised) (release o (withOrders s (taken .list)))) where
+    pub booked-unreleased : Stopped (a .outcome) → actual a w ≡ expected (logAt w raised) (cancelBooked cfg (stampedAt seq s) index s)
     unfolding cancelBooked
     booked-unreleased m = take-on _ _ _ _ (ordersTaken taken) et (ap orderIn h) (then-stop _ _ _ a w (ea w) m)
 
     pub booked-canceled : a .outcome ≡ Ran → (rest : Msgs) → ((x : KernelState) → withMsgs x rest ≡ removeExpiry (o .id) (withMsgs x (a .state .msgs)))
         → (report : ReportRec) → report ≡ reportAt (s .clock .«now_ns») seq o exec.Canceled false 0
-        → {x : Seen} → x ≡ played (logAt w (a .raised)) (queueDelivery cfg report fill.None (withMsgs (a .state) rest))
-        → x ≡ played (logAt w raised) (cancelBooked cfg (stampedAt seq s) index s)
+        → {x : StepResult} → x ≡ expected (logAt w (a .raised)) (queueDelivery cfg report fill.None (withMsgs (a .state) rest))
+        → x ≡ expected (logAt w raised) (cancelBooked cfg (stampedAt seq s) index s)
     unfolding cancelBooked
     booked-canceled ha rest hm report hr p =
         take-on _ _ _ _ (ordersTaken taken) et (ap orderIn h)
         (then-on _ _ _ a w (ea w) ha
-        (sent _ _ _ hr (p ∙ ap (λ (u : KernelState). played (logAt w (a .raised)) (queueDelivery cfg report fill.None u)) (hm (a .state)))))
+        (sent _ _ _ hr (p ∙ ap (λ (u : KernelState). expected (logAt w (a .raised)) (queueDelivery cfg report fill.None u)) (hm (a .state)))))
 
-  pub expire-none : taken .got ≡ maybe.None → seen (ranStep s raised) w ≡ played (logAt w raised) (expireBooked cfg (stampedAt seq s) index s)
+  pub expire-none : taken .got ≡ maybe.None → actual (ranStep s raised) w ≡ expected (logAt w raised) (expireBooked cfg (stampedAt seq s) index s)
   unfolding expireBooked
-  expire-none h = take-none _ _ _ _ (ordersTaken taken) et (ap orderIn h) (played-ran _ s)
+  expire-none h = take-none _ _ _ _ (ordersTaken taken) et (ap orderIn h) (expected-ran _ s)
 
-  module _ (o : VenueOrder) (h : taken .got ≡ maybe.Some o) (a : Step) (ea : (v : List ℕ) → seen a v ≡ played (logAt v raised) (release o (withOrders s (taken .list)))) where
-    pub expire-unreleased : Stopped (a .outcome) → seen a w ≡ played (logAt w raised) (expireBooked cfg (stampedAt seq s) index s)
+  module _ (o : VenueOrder) (h : taken .got ≡ maybe.Some o) (a : Step) (ea : (v : List ℕ) → actual a v ≡ expected (logAt v raised) (release o (withOrders s (taken .list)))) where
+    pub expire-unreleased : Stopped (a .outcome) → actual a w ≡ expected (logAt w raised) (expireBooked cfg (stampedAt seq s) index s)
     unfolding expireBooked
     expire-unreleased m = take-on _ _ _ _ (ordersTaken taken) et (ap orderIn h) (then-stop _ _ _ a w (ea w) m)
 
-    module _ (ha : a .outcome ≡ Ran) (n : ℕ) (w1 w2 : List ℕ) (en : logAt w1 n ≡ note (logAt w (a .raised)) (Expired (o .id) (a .state .clock .«now_ns»)))
+    module _ (ha : a .outcome ≡ Ran) (n : ℕ) (w1 w2 : List ℕ) (en : logAt w1 n ≡ appendEvent (logAt w (a .raised)) (Expired (o .id) (a .state .clock .«now_ns»)))
         (report : ReportRec) (hr : report ≡ reportAt (s .clock .«now_ns») seq o exec.Canceled (o .«cancel_inflight») 0)
-        (b : Step) (eb : seen b w2 ≡ played (logAt w1 n) (queueDelivery cfg report fill.None (a .state))) where
-      pub expire-unsent : Stopped (b .outcome) → seen b w2 ≡ played (logAt w raised) (expireBooked cfg (stampedAt seq s) index s)
+        (b : Step) (eb : actual b w2 ≡ expected (logAt w1 n) (queueDelivery cfg report fill.None (a .state))) where
+      pub expire-unsent : Stopped (b .outcome) → actual b w2 ≡ expected (logAt w raised) (expireBooked cfg (stampedAt seq s) index s)
       unfolding expireBooked
       expire-unsent m =
           take-on _ _ _ _ (ordersTaken taken) et (ap orderIn h)
           (then-on _ _ _ a w (ea w) ha (raise-on _ _ _ _ _ en (then-stop _ _ _ b w2 (sent _ _ _ hr eb) m)))
 
-      pub expire-sent : b .outcome ≡ Ran → (q : VenueOrder) → q ≡ inState o order.Canceled → (d : Step) → ((v : List ℕ) → seen d v ≡ played (logAt v (b .raised)) (awaitMarked q (b .state)))
-          → seen d w2 ≡ played (logAt w raised) (expireBooked cfg (stampedAt seq s) index s)
+      pub expire-sent : b .outcome ≡ Ran → (q : VenueOrder) → q ≡ inState o order.Canceled → (d : Step) → ((v : List ℕ) → actual d v ≡ expected (logAt v (b .raised)) (awaitMarked q (b .state)))
+          → actual d w2 ≡ expected (logAt w raised) (expireBooked cfg (stampedAt seq s) index s)
       unfolding expireBooked
       expire-sent hb q hq d ed =
           take-on _ _ _ _ (ordersTaken taken) et (ap orderIn h)
           (then-on _ _ _ a w (ea w) ha (raise-on _ _ _ _ _ en
-          (then-on _ _ _ b w2 (sent _ _ _ hr eb) hb (ed w2 ∙ ap (λ (y : VenueOrder). played (logAt w2 (b .raised)) (awaitMarked y (b .state))) hq))))
+          (then-on _ _ _ b w2 (sent _ _ _ hr eb) hb (ed w2 ∙ ap (λ (y : VenueOrder). expected (logAt w2 (b .raised)) (awaitMarked y (b .state))) hq))))
 
 -- ---- a pending activation
 no-activation : (k : MsgKind) → OneOf (0 ∷ 2 ∷ []) (tagOf Rattle.book.proofs.MsgKind.the-type k) → (f : VenueOrder → rules.Run) (z : rules.Run) → onActivation k f z ≡ z
@@ -98,103 +98,103 @@ no-activation (Expire i) m f z = refl
 
 module _ (w : List ℕ) (raised seq index : ℕ) (cfg : Config) (s : KernelState)
     (taken : MsgsTaken) (et : msgsTaken taken ≡ takeAt 16 blankMsg index (msgsRow (s .msgs))) where
-  pub pending-none : taken .got ≡ msg.None → seen (ranStep s raised) w ≡ played (logAt w raised) (cancelPending cfg (stampedAt seq s) index s)
+  pub pending-none : taken .got ≡ msg.None → actual (ranStep s raised) w ≡ expected (logAt w raised) (cancelPending cfg (stampedAt seq s) index s)
   unfolding cancelPending
-  pending-none h = take-none _ _ _ _ (msgsTaken taken) et (ap msgIn h) (played-ran _ s)
+  pending-none h = take-none _ _ _ _ (msgsTaken taken) et (ap msgIn h) (expected-ran _ s)
 
   module _ (m : VenueMsg) (h : taken .got ≡ msg.Some m) where
     pub pending-other : OneOf (0 ∷ 2 ∷ []) (tagOf Rattle.book.proofs.MsgKind.the-type (m .kind))
-        → seen (ranStep (withMsgs s (taken .list)) raised) w ≡ played (logAt w raised) (cancelPending cfg (stampedAt seq s) index s)
+        → actual (ranStep (withMsgs s (taken .list)) raised) w ≡ expected (logAt w raised) (cancelPending cfg (stampedAt seq s) index s)
     unfolding cancelPending
     pending-other k =
         take-on _ _ _ _ (msgsTaken taken) et (ap msgIn h)
-        (played-ran _ (withMsgs s (taken .list)) ∙ ap (played (logAt w raised)) (sym (no-activation (m .kind) k _ _)))
+        (expected-ran _ (withMsgs s (taken .list)) ∙ ap (expected (logAt w raised)) (sym (no-activation (m .kind) k _ _)))
 
     module _ (o : VenueOrder) (life : ℕ) (k : m .kind ≡ Activate o life)
-        (a : Step) (ea : (v : List ℕ) → seen a v ≡ played (logAt v raised) (release o (withMsgs s (taken .list)))) where
-      pub pending-unreleased : Stopped (a .outcome) → seen a w ≡ played (logAt w raised) (cancelPending cfg (stampedAt seq s) index s)
+        (a : Step) (ea : (v : List ℕ) → actual a v ≡ expected (logAt v raised) (release o (withMsgs s (taken .list)))) where
+      pub pending-unreleased : Stopped (a .outcome) → actual a w ≡ expected (logAt w raised) (cancelPending cfg (stampedAt seq s) index s)
       unfolding cancelPending
       pending-unreleased z = take-on _ _ _ _ (msgsTaken taken) et (ap msgIn h) (rw k (then-stop _ _ _ a w (ea w) z))
 
       pub pending-canceled : a .outcome ≡ Ran → (report : ReportRec) → report ≡ reportAt (s .clock .«now_ns») seq o exec.Canceled false 0
-          → {x : Seen} → x ≡ played (logAt w (a .raised)) (queueDelivery cfg report fill.None (a .state))
-          → x ≡ played (logAt w raised) (cancelPending cfg (stampedAt seq s) index s)
+          → {x : StepResult} → x ≡ expected (logAt w (a .raised)) (queueDelivery cfg report fill.None (a .state))
+          → x ≡ expected (logAt w raised) (cancelPending cfg (stampedAt seq s) index s)
       unfolding cancelPending
       pending-canceled ha report hr p = take-on _ _ _ _ (msgsTaken taken) et (ap msgIn h) (rw k (then-on _ _ _ a w (ea w) ha (sent _ _ _ hr p)))
 
 -- ---- an order that awaits
 module _ (w : List ℕ) (raised seq index : ℕ) (cfg : Config) (s : KernelState)
     (taken : OrdersTaken) (et : ordersTaken taken ≡ takeAt 8 blankOrder index (ordersRow (s .awaiting))) where
-  pub awaiting-none : taken .got ≡ maybe.None → seen (ranStep s raised) w ≡ played (logAt w raised) (cancelAwaiting cfg (stampedAt seq s) index s)
+  pub awaiting-none : taken .got ≡ maybe.None → actual (ranStep s raised) w ≡ expected (logAt w raised) (cancelAwaiting cfg (stampedAt seq s) index s)
   unfolding cancelAwaiting
-  awaiting-none h = take-none _ _ _ _ (ordersTaken taken) et (ap orderIn h) (played-ran _ s)
+  awaiting-none h = take-none _ _ _ _ (ordersTaken taken) et (ap orderIn h) (expected-ran _ s)
 
-  pub awaiting-told : (o : VenueOrder) → taken .got ≡ maybe.Some o → (report : ReportRec) → report ≡ reportAt (s .clock .«now_ns») seq o exec.CancelRejected false 0
-      → {x : Seen} → x ≡ played (logAt w raised) (queueDelivery cfg report fill.None (withAwaiting s (taken .list)))
-      → x ≡ played (logAt w raised) (cancelAwaiting cfg (stampedAt seq s) index s)
+  pub awaiting-reported : (o : VenueOrder) → taken .got ≡ maybe.Some o → (report : ReportRec) → report ≡ reportAt (s .clock .«now_ns») seq o exec.CancelRejected false 0
+      → {x : StepResult} → x ≡ expected (logAt w raised) (queueDelivery cfg report fill.None (withAwaiting s (taken .list)))
+      → x ≡ expected (logAt w raised) (cancelAwaiting cfg (stampedAt seq s) index s)
   unfolding cancelAwaiting
-  awaiting-told o h report hr p = take-on _ _ _ _ (ordersTaken taken) et (ap orderIn h) (sent _ _ _ hr p)
+  awaiting-reported o h report hr p = take-on _ _ _ _ (ordersTaken taken) et (ap orderIn h) (sent _ _ _ hr p)
 
 -- ---- which of them
 module _ (w : List ℕ) (raised id : ℕ) (cfg : Config) (s : KernelState) (next : MaybeU64) (e : next ≡ fitting (s .seqs .«stamp_seq» + 1)) where
-  pub cancel-full : next ≡ u64.None → seen (haltStep CounterOverflow s raised) w ≡ played (logAt w raised) (cancel cfg id s)
+  pub cancel-full : next ≡ u64.None → actual (haltStep CounterOverflow s raised) w ≡ expected (logAt w raised) (cancel cfg id s)
   unfolding cancel
   cancel-full h = stamp-full _ s _ next e h
 
   module _ (n : ℕ) (h : next ≡ u64.Some n) (booked : Found) (eb : place booked ≡ foundIn (isOpen id) (live 8 (ordersRow (s .orders)))) where
-    pub cancel-booked : (i : ℕ) → booked ≡ found.At i → {x : Seen} → x ≡ played (logAt w raised) (cancelBooked cfg s i (withSeqs s (seqsStampSeq (s .seqs) n)))
-        → x ≡ played (logAt w raised) (cancel cfg id s)
+    pub cancel-booked : (i : ℕ) → booked ≡ found.At i → {x : StepResult} → x ≡ expected (logAt w raised) (cancelBooked cfg s i (withSeqs s (seqsStampSeq (s .seqs) n)))
+        → x ≡ expected (logAt w raised) (cancel cfg id s)
     unfolding cancel onSome
     cancel-booked i hb p = stamp-on _ s _ next e h (rw (← eb, hb) p)
 
     module _ (hb : booked ≡ found.None) (pending : Found) (ep : place pending ≡ foundIn (isActivation id) (live 16 (msgsRow (s .msgs)))) where
-      pub cancel-pending : (i : ℕ) → pending ≡ found.At i → {x : Seen} → x ≡ played (logAt w raised) (cancelPending cfg s i (withSeqs s (seqsStampSeq (s .seqs) n)))
-          → x ≡ played (logAt w raised) (cancel cfg id s)
+      pub cancel-pending : (i : ℕ) → pending ≡ found.At i → {x : StepResult} → x ≡ expected (logAt w raised) (cancelPending cfg s i (withSeqs s (seqsStampSeq (s .seqs) n)))
+          → x ≡ expected (logAt w raised) (cancel cfg id s)
       unfolding cancel onSome
       cancel-pending i hp p = stamp-on _ s _ next e h (rw (← eb, hb, ← ep, hp) p)
 
       module _ (hp : pending ≡ found.None) (late : Found) (el : place late ≡ foundIn (hasId id) (live 8 (ordersRow (s .awaiting)))) where
-        pub cancel-awaiting : (i : ℕ) → late ≡ found.At i → {x : Seen} → x ≡ played (logAt w raised) (cancelAwaiting cfg s i (withSeqs s (seqsStampSeq (s .seqs) n)))
-            → x ≡ played (logAt w raised) (cancel cfg id s)
+        pub cancel-awaiting : (i : ℕ) → late ≡ found.At i → {x : StepResult} → x ≡ expected (logAt w raised) (cancelAwaiting cfg s i (withSeqs s (seqsStampSeq (s .seqs) n)))
+            → x ≡ expected (logAt w raised) (cancel cfg id s)
         unfolding cancel onSome
         cancel-awaiting i hl p = stamp-on _ s _ next e h (rw (← eb, hb, ← ep, hp, ← el, hl) p)
 
-        pub cancel-unknown : late ≡ found.None → seen (ranStep (withSeqs s (seqsStampSeq (s .seqs) n)) raised) w ≡ played (logAt w raised) (cancel cfg id s)
+        pub cancel-unknown : late ≡ found.None → actual (ranStep (withSeqs s (seqsStampSeq (s .seqs) n)) raised) w ≡ expected (logAt w raised) (cancel cfg id s)
         unfolding cancel onSome
-        cancel-unknown hl = stamp-on _ s _ next e h (rw (← eb, hb, ← ep, hp, ← el, hl) (played-ran _ _))
+        cancel-unknown hl = stamp-on _ s _ next e h (rw (← eb, hb, ← ep, hp, ← el, hl) (expected-ran _ _))
 
 -- ---- an expiry
 module _ (w : List ℕ) (raised id : ℕ) (cfg : Config) (s : KernelState) (booked : Found) (eb : place booked ≡ foundIn (isOpen id) (live 8 (ordersRow (s .orders)))) where
-  pub expire-unbooked : booked ≡ found.None → seen (ranStep s raised) w ≡ played (logAt w raised) (expire cfg id s)
+  pub expire-unbooked : booked ≡ found.None → actual (ranStep s raised) w ≡ expected (logAt w raised) (expire cfg id s)
   unfolding expire onSome
-  expire-unbooked h = rw (← eb, h) (played-ran _ s)
+  expire-unbooked h = rw (← eb, h) (expected-ran _ s)
 
   module _ (i : ℕ) (hb : booked ≡ found.At i) (next : MaybeU64) (e : next ≡ fitting (s .seqs .«stamp_seq» + 1)) where
-    pub expire-full : next ≡ u64.None → seen (haltStep CounterOverflow s raised) w ≡ played (logAt w raised) (expire cfg id s)
+    pub expire-full : next ≡ u64.None → actual (haltStep CounterOverflow s raised) w ≡ expected (logAt w raised) (expire cfg id s)
     unfolding expire onSome
     expire-full h = rw (← eb, hb) (stamp-full _ s _ next e h)
 
-    pub expire-found : (n : ℕ) → next ≡ u64.Some n → {x : Seen} → x ≡ played (logAt w raised) (expireBooked cfg s i (withSeqs s (seqsStampSeq (s .seqs) n)))
-        → x ≡ played (logAt w raised) (expire cfg id s)
+    pub expire-found : (n : ℕ) → next ≡ u64.Some n → {x : StepResult} → x ≡ expected (logAt w raised) (expireBooked cfg s i (withSeqs s (seqsStampSeq (s .seqs) n)))
+        → x ≡ expected (logAt w raised) (expire cfg id s)
     unfolding expire onSome
     expire-found n h p = rw (← eb, hb) (stamp-on _ s _ next e h p)
 
 -- ---- the first message
 module _ (w : List ℕ) (raised : ℕ) (cfg : Config) (s : KernelState) (taken : MsgsTaken) (et : msgsTaken taken ≡ popped 16 blankMsg (msgsRow (s .msgs))) where
-  pub next-none : taken .got ≡ msg.None → seen (ranStep s raised) w ≡ played (logAt w raised) (applyNextMsg cfg s)
+  pub next-none : taken .got ≡ msg.None → actual (ranStep s raised) w ≡ expected (logAt w raised) (applyNextMsg cfg s)
   unfolding applyNextMsg
-  next-none h = take-none _ _ _ _ (msgsTaken taken) et (ap msgIn h) (played-ran _ s)
+  next-none h = take-none _ _ _ _ (msgsTaken taken) et (ap msgIn h) (expected-ran _ s)
 
   module _ (m : VenueMsg) (h : taken .got ≡ msg.Some m) where
-    pub next-cancel : (id : ℕ) → m .kind ≡ Cancel id → {x : Seen} → x ≡ played (logAt w raised) (cancel cfg id (withMsgs s (taken .list))) → x ≡ played (logAt w raised) (applyNextMsg cfg s)
+    pub next-cancel : (id : ℕ) → m .kind ≡ Cancel id → {x : StepResult} → x ≡ expected (logAt w raised) (cancel cfg id (withMsgs s (taken .list))) → x ≡ expected (logAt w raised) (applyNextMsg cfg s)
     unfolding applyNextMsg
     next-cancel id k p = take-on _ _ _ _ (msgsTaken taken) et (ap msgIn h) (rw k p)
 
-    pub next-activate : (o : VenueOrder) (life : ℕ) → m .kind ≡ Activate o life → {x : Seen} → x ≡ played (logAt w raised) (activation cfg o life s (withMsgs s (taken .list)))
-        → x ≡ played (logAt w raised) (applyNextMsg cfg s)
+    pub next-activate : (o : VenueOrder) (life : ℕ) → m .kind ≡ Activate o life → {x : StepResult} → x ≡ expected (logAt w raised) (activation cfg o life s (withMsgs s (taken .list)))
+        → x ≡ expected (logAt w raised) (applyNextMsg cfg s)
     unfolding applyNextMsg
     next-activate o life k p = take-on _ _ _ _ (msgsTaken taken) et (ap msgIn h) (rw k p)
 
-    pub next-expire : (id : ℕ) → m .kind ≡ Expire id → {x : Seen} → x ≡ played (logAt w raised) (expire cfg id (withMsgs s (taken .list))) → x ≡ played (logAt w raised) (applyNextMsg cfg s)
+    pub next-expire : (id : ℕ) → m .kind ≡ Expire id → {x : StepResult} → x ≡ expected (logAt w raised) (expire cfg id (withMsgs s (taken .list))) → x ≡ expected (logAt w raised) (applyNextMsg cfg s)
     unfolding applyNextMsg
     next-expire id k p = take-on _ _ _ _ (msgsTaken taken) et (ap msgIn h) (rw k p)

@@ -44,104 +44,104 @@ use Rattle.book.specs.declared.state.Phase.the-variants as phase
 use Rattle.book.specs.declared.state.Status.the-variants as status
 use Rattle.rules.specs.Run as rules
 use Rattle.rules.specs.Matching.{moved}
-use Rattle.rules.specs.Delivery.{countFill, moveAgent, isLocal, isRejected, countReject, onDelivery, handed, deliverNext, deliverAll, droppedEvent, emptyQueues, closeData, endOfData}
-use Rattle.reports.specs.Log.{logAt, note, noted, Seen, played, seen}
-use Rattle.delivery.specs.Delivery.{agentIn, withHanded, handedIn, withEmptied, emptiedIn}
+use Rattle.rules.specs.Delivery.{countFill, moveAgent, isLocal, isRejected, countReject, onDelivery, deliver, deliverNext, deliverAll, droppedEvent, emptyQueues, closeData, endOfData}
+use Rattle.reports.specs.Log.{logAt, appendEvent, appendEvents, StepResult, expected, actual}
+use Rattle.delivery.specs.Delivery.{agentIn, withDelivered, deliveryStepIn, withEmptied, emptiedIn}
 use Rattle.reports.specs.declared.Outcome.the-variants.{Ran, Halt, Ended}
 use Rattle.delivery.specs.declared.AgentStep.{AgentStep}
 use Rattle.delivery.specs.declared.Emptied.{Emptied}
-use Rattle.delivery.specs.declared.Handed.{Handed}
-use Rattle.reports.proofs.Notes.{noted-append}
-use Rattle.reports.proofs.Then.{played-ran, Stopped, then-ran, then-stop, then-on, raise-on}
+use Rattle.delivery.specs.declared.DeliveryStep.{DeliveryStep}
+use Rattle.reports.proofs.Append.{appended-append}
+use Rattle.reports.proofs.Then.{expected-ran, Stopped, then-ran, then-stop, then-on, raise-on}
 
 -- ---- move_agent
-module _ (fills : MaybeFill) (agent : AgentView) where
-  pub move-none : fills ≡ fill.None → (s : KernelState) (n : ℕ) (w : List ℕ)
-      → seen (agentIn s n (record { outcome = Ran; agent = agent })) w ≡ played (logAt w n) (moveAgent fills (withAgent s agent))
-  move-none h s n w = rw h (played-ran (logAt w n) (withAgent s agent))
+module _ (carried : MaybeFill) (agent : AgentView) where
+  pub move-none : carried ≡ fill.None → (s : KernelState) (n : ℕ) (w : List ℕ)
+      → actual (agentIn s n (record { outcome = Ran; agent = agent })) w ≡ expected (logAt w n) (moveAgent carried (withAgent s agent))
+  move-none h s n w = rw h (expected-ran (logAt w n) (withAgent s agent))
 
-  module _ (f : FillRec) (to : Moved) (h : fills ≡ fill.Some f) (m : to ≡ moved (f .side) (agent .pos) (f .qty)) where
+  module _ (f : FillRec) (to : Moved) (h : carried ≡ fill.Some f) (m : to ≡ moved (f .side) (agent .pos) (f .qty)) where
     pub move-out : to ≡ Out → (s : KernelState) (n : ℕ) (w : List ℕ)
-        → seen (agentIn s n (record { outcome = Halt LedgerOverflow; agent = agent })) w ≡ played (logAt w n) (moveAgent fills (withAgent s agent))
-    unfolding onMoved played noted
+        → actual (agentIn s n (record { outcome = Halt LedgerOverflow; agent = agent })) w ≡ expected (logAt w n) (moveAgent carried (withAgent s agent))
+    unfolding onMoved expected appendEvents
     move-out o s n w = rw (h, ← m, o)
 
     module _ (pos : Position) (count : MaybeU64) (o : to ≡ To pos) (e : count ≡ fitting (agent .«delivered_fills» + 1)) where
       pub move-full : count ≡ u64.None → (s : KernelState) (n : ℕ) (w : List ℕ)
-          → seen (agentIn s n (record { outcome = Halt CounterOverflow; agent = agentPos agent pos })) w ≡ played (logAt w n) (moveAgent fills (withAgent s agent))
-      unfolding onMoved countFill onWord played noted
+          → actual (agentIn s n (record { outcome = Halt CounterOverflow; agent = agentPos agent pos })) w ≡ expected (logAt w n) (moveAgent carried (withAgent s agent))
+      unfolding onMoved countFill onWord expected appendEvents
       move-full g s n w = rw (h, ← m, o, ← e, g)
 
       pub move-counts : (k : ℕ) → count ≡ u64.Some k → (s : KernelState) (n : ℕ) (w : List ℕ)
-          → seen (agentIn s n (record { outcome = Ran; agent = agentDeliveredFills (agentPos agent pos) k })) w ≡ played (logAt w n) (moveAgent fills (withAgent s agent))
-      unfolding onMoved countFill onWord played noted
+          → actual (agentIn s n (record { outcome = Ran; agent = agentDeliveredFills (agentPos agent pos) k })) w ≡ expected (logAt w n) (moveAgent carried (withAgent s agent))
+      unfolding onMoved countFill onWord expected appendEvents
       move-counts k g s n w = rw (h, ← m, o, ← e, g)
 
 -- ---- count_reject
 module _ (report : ReportRec) (agent : AgentView) (rejected : Bool) (r : rejected ≡ isRejected (report .kind)) where
   pub reject-not : not rejected ≡ true → (s : KernelState) (n : ℕ) (w : List ℕ)
-      → seen (agentIn s n (record { outcome = Ran; agent = agent })) w ≡ played (logAt w n) (countReject report (withAgent s agent))
-  unfolding countReject pick played noted
+      → actual (agentIn s n (record { outcome = Ran; agent = agent })) w ≡ expected (logAt w n) (countReject report (withAgent s agent))
+  unfolding countReject pick expected appendEvents
   reject-not h s n w = rw (← r, not-true rejected h)
 
   module _ (local : Bool) (h : not rejected ≡ false) (l : local ≡ isLocal (report .origin)) where
     pub reject-venue : not local ≡ true → (s : KernelState) (n : ℕ) (w : List ℕ)
-        → seen (agentIn s n (record { outcome = Ran; agent = agent })) w ≡ played (logAt w n) (countReject report (withAgent s agent))
-    unfolding countReject pick played noted
+        → actual (agentIn s n (record { outcome = Ran; agent = agent })) w ≡ expected (logAt w n) (countReject report (withAgent s agent))
+    unfolding countReject pick expected appendEvents
     reject-venue o s n w = rw (← r, not-false rejected h, ← l, not-true local o)
 
     module _ (count : MaybeU64) (o : not local ≡ false) (e : count ≡ fitting (agent .«delivered_local_rejects» + 1)) where
       pub reject-full : count ≡ u64.None → (s : KernelState) (n : ℕ) (w : List ℕ)
-          → seen (agentIn s n (record { outcome = Halt CounterOverflow; agent = agent })) w ≡ played (logAt w n) (countReject report (withAgent s agent))
-      unfolding countReject pick onWord played noted
+          → actual (agentIn s n (record { outcome = Halt CounterOverflow; agent = agent })) w ≡ expected (logAt w n) (countReject report (withAgent s agent))
+      unfolding countReject pick onWord expected appendEvents
       reject-full g s n w = rw (← r, not-false rejected h, ← l, not-false local o, ← e, g)
 
       pub reject-counts : (k : ℕ) → count ≡ u64.Some k → (s : KernelState) (n : ℕ) (w : List ℕ)
-          → seen (agentIn s n (record { outcome = Ran; agent = agentDeliveredLocalRejects agent k })) w ≡ played (logAt w n) (countReject report (withAgent s agent))
-      unfolding countReject pick onWord played noted
+          → actual (agentIn s n (record { outcome = Ran; agent = agentDeliveredLocalRejects agent k })) w ≡ expected (logAt w n) (countReject report (withAgent s agent))
+      unfolding countReject pick onWord expected appendEvents
       reject-counts k g s n w = rw (← r, not-false rejected h, ← l, not-false local o, ← e, g)
 
 -- ---- hand
 -- what follows the agent's move, and the count
-abbrev tells : ReportRec → KernelState → rules.Run
-tells r v = rules.ranTo (withAccount v (onDelivery r (v .account)))
+abbrev closes : ReportRec → KernelState → rules.Run
+closes r v = rules.ranTo (withAccount v (onDelivery r (v .account)))
 
 abbrev counts : ReportRec → KernelState → rules.Run
-counts r u = rules.andThen (countReject r u) (tells r)
+counts r u = rules.andThen (countReject r u) (closes r)
 
 abbrev moves : Delivery → KernelState → rules.Run
 moves d t = rules.andThen (moveAgent (d .fill) t) (counts (d .report))
 
 module _ (w : List ℕ) (n : ℕ) (d : Delivery) (agent : AgentView) (account : AgentAccount) (w1 : List ℕ) (m : ℕ) (a : AgentStep)
-    (em : logAt w1 m ≡ note (logAt w n) (Delivered (d .report)))
-    (ma : (s : KernelState) (n : ℕ) (w : List ℕ) → seen (agentIn s n a) w ≡ played (logAt w n) (moveAgent (d .fill) (withAgent s agent))) where
-  pub hand-stays : Stopped (a .outcome) → (s : KernelState)
-      → seen (handedIn s (record { outcome = a .outcome; agent = a .agent; account = account; raised = m })) w1 ≡ played (logAt w n) (handed d (withHanded s agent account))
-  hand-stays o s =
-      let t : KernelState = withHanded s agent account in
+    (em : logAt w1 m ≡ appendEvent (logAt w n) (Delivered (d .report)))
+    (ma : (s : KernelState) (n : ℕ) (w : List ℕ) → actual (agentIn s n a) w ≡ expected (logAt w n) (moveAgent (d .fill) (withAgent s agent))) where
+  pub deliver-stays : Stopped (a .outcome) → (s : KernelState)
+      → actual (deliveryStepIn s (record { outcome = a .outcome; agent = a .agent; account = account; raised = m })) w1 ≡ expected (logAt w n) (deliver d (withDelivered s agent account))
+  deliver-stays o s =
+      let t : KernelState = withDelivered s agent account in
       raise-on (logAt w n) (Delivered (d .report)) t (moves d) (logAt w1 m) em
       (then-stop (logAt w1 m) (moveAgent (d .fill) t) (counts (d .report)) (agentIn t m a) w1 (ma t m w1) o)
 
   module _ (b : AgentStep) (o : a .outcome ≡ Ran)
-      (mb : (s : KernelState) (n : ℕ) (w : List ℕ) → seen (agentIn s n b) w ≡ played (logAt w n) (countReject (d .report) (withAgent s (a .agent)))) where
-    moved-on : {x : Seen} (s : KernelState) → x ≡ played (logAt w1 m) (counts (d .report) (withHanded s (a .agent) account)) → x ≡ played (logAt w n) (handed d (withHanded s agent account))
+      (mb : (s : KernelState) (n : ℕ) (w : List ℕ) → actual (agentIn s n b) w ≡ expected (logAt w n) (countReject (d .report) (withAgent s (a .agent)))) where
+    moved-on : {x : StepResult} (s : KernelState) → x ≡ expected (logAt w1 m) (counts (d .report) (withDelivered s (a .agent) account)) → x ≡ expected (logAt w n) (deliver d (withDelivered s agent account))
     moved-on s p =
-        let t : KernelState = withHanded s agent account in
+        let t : KernelState = withDelivered s agent account in
         raise-on (logAt w n) (Delivered (d .report)) t (moves d) (logAt w1 m) em
         (then-on (logAt w1 m) (moveAgent (d .fill) t) (counts (d .report)) (agentIn t m a) w1 (ma t m w1) o p)
 
-    pub hand-uncounted : Stopped (b .outcome) → (s : KernelState)
-        → seen (handedIn s (record { outcome = b .outcome; agent = b .agent; account = account; raised = m })) w1 ≡ played (logAt w n) (handed d (withHanded s agent account))
-    hand-uncounted q s =
-        let u : KernelState = withHanded s (a .agent) account in
-        moved-on s (then-stop (logAt w1 m) (countReject (d .report) u) (tells (d .report)) (agentIn u m b) w1 (mb u m w1) q)
+    pub deliver-uncounted : Stopped (b .outcome) → (s : KernelState)
+        → actual (deliveryStepIn s (record { outcome = b .outcome; agent = b .agent; account = account; raised = m })) w1 ≡ expected (logAt w n) (deliver d (withDelivered s agent account))
+    deliver-uncounted q s =
+        let u : KernelState = withDelivered s (a .agent) account in
+        moved-on s (then-stop (logAt w1 m) (countReject (d .report) u) (closes (d .report)) (agentIn u m b) w1 (mb u m w1) q)
 
-    pub hand-told : (told : AgentAccount) → b .outcome ≡ Ran → told ≡ onDelivery (d .report) account → (s : KernelState)
-        → seen (handedIn s (record { outcome = Ran; agent = b .agent; account = told; raised = m })) w1 ≡ played (logAt w n) (handed d (withHanded s agent account))
-    hand-told told q e s =
-        let u : KernelState = withHanded s (a .agent) account in
-        moved-on s (then-on (logAt w1 m) (countReject (d .report) u) (tells (d .report)) (agentIn u m b) w1 (mb u m w1) q
-        (rw e (played-ran (logAt w1 m) (withHanded s (b .agent) (onDelivery (d .report) account)))))
+    pub deliver-done : (entries : AgentAccount) → b .outcome ≡ Ran → entries ≡ onDelivery (d .report) account → (s : KernelState)
+        → actual (deliveryStepIn s (record { outcome = Ran; agent = b .agent; account = entries; raised = m })) w1 ≡ expected (logAt w n) (deliver d (withDelivered s agent account))
+    deliver-done entries q e s =
+        let u : KernelState = withDelivered s (a .agent) account in
+        moved-on s (then-on (logAt w1 m) (countReject (d .report) u) (closes (d .report)) (agentIn u m b) w1 (mb u m w1) q
+        (rw e (expected-ran (logAt w1 m) (withDelivered s (b .agent) (onDelivery (d .report) account)))))
 
 -- ---- the first delivery
 -- t is what the code has of taking it from the list of s
@@ -151,11 +151,11 @@ module _ (s : KernelState) (t : DeliveriesTaken) (p : deliveriesTaken t ≡ popp
   next-none h = rw (← p, h)
 
   -- k and w1 are what handing it left
-  pub next-handed : (w : List ℕ) (n : ℕ) (d : Delivery) → t .got ≡ delivery.Some d → (k : Handed) (w1 : List ℕ)
-      → ((u : KernelState) → seen (handedIn u k) w1 ≡ played (logAt w n) (handed d (withHanded u (s .agent) (s .account))))
-      → seen (handedIn (withDeliveries s (t .list)) k) w1 ≡ played (logAt w n) (deliverNext s)
+  pub next-delivered : (w : List ℕ) (n : ℕ) (d : Delivery) → t .got ≡ delivery.Some d → (k : DeliveryStep) (w1 : List ℕ)
+      → ((u : KernelState) → actual (deliveryStepIn u k) w1 ≡ expected (logAt w n) (deliver d (withDelivered u (s .agent) (s .account))))
+      → actual (deliveryStepIn (withDeliveries s (t .list)) k) w1 ≡ expected (logAt w n) (deliverNext s)
   unfolding deliverNext rules.taking onSome
-  next-handed w n d h k w1 e = rw (← p, h) (e (withDeliveries s (t .list)))
+  next-delivered w n d h k w1 e = rw (← p, h) (e (withDeliveries s (t .list)))
 
 -- ---- deliver_all
 pub one-less : (d : Deliveries) (t : DeliveriesTaken) → deliveriesTaken t ≡ popped 24 blankDelivery (deliveriesRow d) → (y : Delivery) → t .got ≡ delivery.Some y → d .count ≡ suc (t .list .count)
@@ -168,83 +168,83 @@ module _ (w : List ℕ) (n : ℕ) (d : Deliveries) (g : AgentView) (a : AgentAcc
     (t : DeliveriesTaken) (p : deliveriesTaken t ≡ popped 24 blankDelivery (deliveriesRow d)) where
   -- none is left: so it is for any number of turns
   pub all-done : t .got ≡ delivery.None → (q : ℕ) (s : KernelState)
-      → seen (emptiedIn s (record { outcome = Ran; deliveries = d; agent = g; account = a; raised = n })) w ≡ played (logAt w n) (deliverAll q (withEmptied s d g a))
+      → actual (emptiedIn s (record { outcome = Ran; deliveries = d; agent = g; account = a; raised = n })) w ≡ expected (logAt w n) (deliverAll q (withEmptied s d g a))
   unfolding deliverAll rules.andThen
-  all-done h zero s = played-ran (logAt w n) (withEmptied s d g a)
+  all-done h zero s = expected-ran (logAt w n) (withEmptied s d g a)
   all-done h (suc q) s = rw (next-none (withEmptied s d g a) t p h) (all-done h q s)
 
-  module _ (y : Delivery) (h : t .got ≡ delivery.Some y) (k : Handed) (w1 : List ℕ)
-      (e : (s : KernelState) → seen (handedIn s k) w1 ≡ played (logAt w n) (handed y (withHanded s g a))) where
+  module _ (y : Delivery) (h : t .got ≡ delivery.Some y) (k : DeliveryStep) (w1 : List ℕ)
+      (e : (s : KernelState) → actual (deliveryStepIn s k) w1 ≡ expected (logAt w n) (deliver y (withDelivered s g a))) where
     abbrev left : Emptied
     left = record { outcome = k .outcome; deliveries = t .list; agent = k .agent; account = k .account; raised = k .raised }
 
-    step : (s : KernelState) → seen (emptiedIn s left) w1 ≡ played (logAt w n) (deliverNext (withEmptied s d g a))
-    step s = next-handed (withEmptied s d g a) t p w n y h k w1 e
+    step : (s : KernelState) → actual (emptiedIn s left) w1 ≡ expected (logAt w n) (deliverNext (withEmptied s d g a))
+    step s = next-delivered (withEmptied s d g a) t p w n y h k w1 e
 
     opens : (s : KernelState) → deliverAll (d .count) (withEmptied s d g a) ≡ rules.andThen (deliverNext (withEmptied s d g a)) (deliverAll (t .list .count))
     unfolding deliverAll
     opens s = ap (λ q. deliverAll q (withEmptied s d g a)) (one-less d t p y h)
 
     pub all-turn : k .outcome ≡ Ran → (s : KernelState)
-        → played (logAt w1 (k .raised)) (deliverAll (t .list .count) (withEmptied s (t .list) (k .agent) (k .account))) ≡ played (logAt w n) (deliverAll (d .count) (withEmptied s d g a))
-    all-turn o s = sym (ap (played (logAt w n)) (opens s) ∙ then-ran (logAt w n) (deliverNext (withEmptied s d g a)) (deliverAll (t .list .count)) (emptiedIn s left) w1 (step s) o)
+        → expected (logAt w1 (k .raised)) (deliverAll (t .list .count) (withEmptied s (t .list) (k .agent) (k .account))) ≡ expected (logAt w n) (deliverAll (d .count) (withEmptied s d g a))
+    all-turn o s = sym (ap (expected (logAt w n)) (opens s) ∙ then-ran (logAt w n) (deliverNext (withEmptied s d g a)) (deliverAll (t .list .count)) (emptiedIn s left) w1 (step s) o)
 
-    pub all-stop : Stopped (k .outcome) → (s : KernelState) → seen (emptiedIn s left) w1 ≡ played (logAt w n) (deliverAll (d .count) (withEmptied s d g a))
-    all-stop o s = then-stop (logAt w n) (deliverNext (withEmptied s d g a)) (deliverAll (t .list .count)) (emptiedIn s left) w1 (step s) o ∙ ap (played (logAt w n)) (sym (opens s))
+    pub all-stop : Stopped (k .outcome) → (s : KernelState) → actual (emptiedIn s left) w1 ≡ expected (logAt w n) (deliverAll (d .count) (withEmptied s d g a))
+    all-stop o s = then-stop (logAt w n) (deliverNext (withEmptied s d g a)) (deliverAll (t .list .count)) (emptiedIn s left) w1 (step s) o ∙ ap (expected (logAt w n)) (sym (opens s))
 
--- ---- tell_dropped: from place i on
-pub dropped-none : (w : List ℕ) (n : ℕ) (msgs : Msgs) → 16 < msgs .count → logAt w n ≡ noted (logAt w n) (map droppedEvent (live 16 (msgsRow msgs)))
-unfolding live pick noted
+-- ---- emit_dropped: from place i on
+pub dropped-none : (w : List ℕ) (n : ℕ) (msgs : Msgs) → 16 < msgs .count → logAt w n ≡ appendEvents (logAt w n) (map droppedEvent (live 16 (msgsRow msgs)))
+unfolding live pick appendEvents
 dropped-none w n msgs h = rw (lt-leb (msgs .count) 16 h)
 
 pub dropped-turn : (w w1 : List ℕ) (n m : ℕ) (l : List VenueMsg) (count i : ℕ) (d : VenueMsg) (e : KernelEvent) → i < count → count ≤ length l
-    → e ≡ droppedEvent (getD l i d) → logAt w1 m ≡ note (logAt w n) e
-    → noted (logAt w1 m) (map droppedEvent (drop (i + 1) (take count l))) ≡ noted (logAt w n) (map droppedEvent (drop i (take count l)))
-unfolding noted
+    → e ≡ droppedEvent (getD l i d) → logAt w1 m ≡ appendEvent (logAt w n) e
+    → appendEvents (logAt w1 m) (map droppedEvent (drop (i + 1) (take count l))) ≡ appendEvents (logAt w n) (map droppedEvent (drop i (take count l)))
+unfolding appendEvents
 dropped-turn w w1 n m l count i d e h k he em = rw (at-place count l i d h k, ← he, em, add-one)
 
 pub dropped-all : (w w1 : List ℕ) (n m : ℕ) (msgs : Msgs) (i : ℕ) → msgs .count ≤ 16 → msgs .count ≤ i → msgs .count ≤ length (msgs .slots)
-    → noted (logAt w1 m) (map droppedEvent (drop i (take (msgs .count) (msgs .slots)))) ≡ noted (logAt w n) (map droppedEvent (take (msgs .count) (msgs .slots)))
-    → logAt w1 m ≡ noted (logAt w n) (map droppedEvent (live 16 (msgsRow msgs)))
-unfolding live pick noted
+    → appendEvents (logAt w1 m) (map droppedEvent (drop i (take (msgs .count) (msgs .slots)))) ≡ appendEvents (logAt w n) (map droppedEvent (take (msgs .count) (msgs .slots)))
+    → logAt w1 m ≡ appendEvents (logAt w n) (map droppedEvent (live 16 (msgsRow msgs)))
+unfolding live pick appendEvents
 dropped-all w w1 n m msgs i c h k e =
     let past : length (take (msgs .count) (msgs .slots)) ≤ i = rw (length-take-le (msgs .count) (msgs .slots) k) h in
     rw (le-leb (msgs .count) 16 c) (rw (drop-of-length-le (take (msgs .count) (msgs .slots)) past) at e)
 
 -- ---- close_data
 module _ (w w1 : List ℕ) (raised n : ℕ) (s : KernelState) (m : Msgs) (o : Observed) (sum : MaybeU64)
-    (em : logAt w1 n ≡ noted (logAt w raised) (map droppedEvent (live 16 (msgsRow (s .msgs)))))
+    (em : logAt w1 n ≡ appendEvents (logAt w raised) (map droppedEvent (live 16 (msgsRow (s .msgs)))))
     (hm : msgsRow m ≡ emptied 16 blankMsg (msgsRow (s .msgs))) (ho : observedRow o ≡ emptied 16 blankObs (observedRow (s .observed)))
     (e : sum ≡ fitting (s .counters .«eof_dropped_msgs» + s .msgs .count)) where
   abbrev cleared : KernelState
   cleared = withObserved (withMsgs s m) o
 
-  pub close-full : sum ≡ u64.None → seen (record { outcome = Halt CounterOverflow; state = cleared; raised = n }) w1 ≡ played (logAt w raised) (closeData s)
-  unfolding closeData emptyQueues onWord played noted
-  close-full h = rw (← hm, ← ho, ← e, h, ← noted-append, ← em)
+  pub close-full : sum ≡ u64.None → actual (record { outcome = Halt CounterOverflow; state = cleared; raised = n }) w1 ≡ expected (logAt w raised) (closeData s)
+  unfolding closeData emptyQueues onWord expected appendEvents
+  close-full h = rw (← hm, ← ho, ← e, h, ← appended-append, ← em)
 
   module _ (x : ℕ) (sum2 : MaybeU64) (h : sum ≡ u64.Some x) (e2 : sum2 ≡ fitting (s .counters .«eof_dropped_obs» + s .observed .count)) where
     pub close-full-2 : sum2 ≡ u64.None
-        → seen (record { outcome = Halt CounterOverflow; state = withCounters cleared (countersEofDroppedMsgs (s .counters) x); raised = n }) w1 ≡ played (logAt w raised) (closeData s)
-    unfolding closeData emptyQueues onWord played noted
-    close-full-2 h2 = rw (← hm, ← ho, ← e, h, ← e2, h2, ← noted-append, ← em)
+        → actual (record { outcome = Halt CounterOverflow; state = withCounters cleared (countersEofDroppedMsgs (s .counters) x); raised = n }) w1 ≡ expected (logAt w raised) (closeData s)
+    unfolding closeData emptyQueues onWord expected appendEvents
+    close-full-2 h2 = rw (← hm, ← ho, ← e, h, ← e2, h2, ← appended-append, ← em)
 
-    pub close-ends : (w2 : List ℕ) (k y : ℕ) → sum2 ≡ u64.Some y → logAt w2 k ≡ note (logAt w1 n) (EndOfData (s .msgs .count) (s .observed .count))
-        → seen (record {
+    pub close-ends : (w2 : List ℕ) (k y : ℕ) → sum2 ≡ u64.Some y → logAt w2 k ≡ appendEvent (logAt w1 n) (EndOfData (s .msgs .count) (s .observed .count))
+        → actual (record {
           outcome = Ended;
           state = withControl (withCounters cleared (countersEofDroppedObs (countersEofDroppedMsgs (s .counters) x) y)) (controlStatus (controlPhase (s .control) phase.Terminal) status.EndOfData);
           raised = k;
-        }) w2 ≡ played (logAt w raised) (closeData s)
-    unfolding closeData emptyQueues onWord played noted
-    close-ends w2 k y h2 e3 = rw (← hm, ← ho, ← e, h, ← e2, h2, ← noted-append, ← em, ← e3)
+        }) w2 ≡ expected (logAt w raised) (closeData s)
+    unfolding closeData emptyQueues onWord expected appendEvents
+    close-ends w2 k y h2 e3 = rw (← hm, ← ho, ← e, h, ← e2, h2, ← appended-append, ← em, ← e3)
 
 -- ---- end_of_data
 module _ (w w1 : List ℕ) (n : ℕ) (s : KernelState) (h : Emptied)
-    (e : seen (emptiedIn s h) w1 ≡ played (logAt w n) (deliverAll (s .deliveries .count) s)) where
-  pub end-stops : Stopped (h .outcome) → seen (emptiedIn s h) w1 ≡ played (logAt w n) (endOfData s)
+    (e : actual (emptiedIn s h) w1 ≡ expected (logAt w n) (deliverAll (s .deliveries .count) s)) where
+  pub end-stops : Stopped (h .outcome) → actual (emptiedIn s h) w1 ≡ expected (logAt w n) (endOfData s)
   unfolding endOfData
   end-stops o = then-stop (logAt w n) (deliverAll (s .deliveries .count) s) closeData (emptiedIn s h) w1 e o
 
-  pub end-closes : h .outcome ≡ Ran → played (logAt w1 (h .raised)) (closeData (emptiedIn s h .state)) ≡ played (logAt w n) (endOfData s)
+  pub end-closes : h .outcome ≡ Ran → expected (logAt w1 (h .raised)) (closeData (emptiedIn s h .state)) ≡ expected (logAt w n) (endOfData s)
   unfolding endOfData
   end-closes o = sym (then-ran (logAt w n) (deliverAll (s .deliveries .count) s) closeData (emptiedIn s h) w1 e o)

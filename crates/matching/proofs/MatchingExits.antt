@@ -12,7 +12,7 @@ use Rattle.numbers.specs.Words.{fitting, onWord}
 use Rattle.numbers.specs.declared.MaybeU64.{MaybeU64}
 use Rattle.numbers.specs.declared.MaybeU64.the-variants as u64
 use Rattle.lists.specs.Lists.{onSome, live, foundIn, entryAt, takeAt, storeAt, putBefore}
-use Rattle.lists.proofs.Ways.{put-full, push-in, store-in}
+use Rattle.lists.proofs.Exits.{put-full, push-in, store-in}
 use Rattle.book.specs.Entries.{blankOrder, remaining, inState, isTerminal, idAbove}
 use Rattle.book.specs.Rows.{ordersRow, ordersOf, ordersPut, ordersTaken, orderIn, deliveriesRow}
 use Rattle.book.specs.With.{withOrders, withMsgs, withDeliveries, seqsStampSeq, seqsNextExecId, gateMark2, countersVenueFills}
@@ -38,22 +38,22 @@ use Rattle.book.specs.declared.state.HaltReason.{HaltReason}
 use Rattle.book.specs.declared.state.HaltReason.the-variants.{LedgerOverflow, CounterOverflow}
 use Rattle.book.specs.declared.state.KernelEvent.the-variants.{Fill}
 use Rattle.book.specs.declared.state.KernelState.{KernelState}
-use Rattle.models.specs.Told.{gateTold}
+use Rattle.models.specs.Rules.{ruleGate}
 use Rattle.models.specs.declared.gate.Gated.{Gated}
-use Rattle.models.specs.declared.gate.Gated.the-variants.{Fail, Kept}
+use Rattle.models.specs.declared.gate.Gated.the-variants.{Fail, Done}
 use Rattle.rules.specs.Run as rules
 use Rattle.rules.specs.Report.{stamp, pushDelivery, reportAt, reported, queueDelivery}
 use Rattle.rules.specs.Messages.{removeExpiry, await, awaitMarked}
-use Rattle.rules.specs.Matching.{matches, fillLots, gateFilled, filledBy, recordAt, fillKind, fillRecord, fillReport, fillCounted, fillEvent, fillAt, no-fill, fills, fails, fillsOf, fillsAt, filling, matchAt, matchFrom, leave, terminalAt, sweepFrom, marked}
+use Rattle.rules.specs.Matching.{matches, fillLots, gateFilled, filledBy, recordAt, fillKind, fillRecord, fillReport, fillCounted, fillEvent, fillAt, no-fill, fills, fails, fillsOf, fillsAt, filling, matchAt, matchFrom, leave, terminalAt, sweepFrom, gateMarked}
 use Rattle.rules.proofs.HeldMatching.{There, fills-there}
-use Rattle.reports.specs.Log.{logAt, note, noted, Seen, played, seen}
+use Rattle.reports.specs.Log.{logAt, appendEvent, appendEvents, StepResult, expected, actual}
 use Rattle.reports.specs.Report.{withReport, reportedIn}
 use Rattle.reports.specs.declared.Outcome.the-variants.{Ran, Halt}
 use Rattle.reports.specs.declared.Step.{Step}
 use Rattle.reports.specs.declared.report.Reported.{Reported}
-use Rattle.reports.proofs.ReportWays.{push-of}
-use Rattle.reports.proofs.Then.{played-ran, Stopped, then-ran, then-stop, then-on, fits-none, fits-some}
-use Rattle.matching.specs.Matching.{withVenue, filledIn, withMatched, matchedIn, stirs, busy, lotsTold, withSwept, sweptIn}
+use Rattle.reports.proofs.ReportExits.{push-of}
+use Rattle.reports.proofs.Then.{expected-ran, Stopped, then-ran, then-stop, then-on, fits-none, fits-some}
+use Rattle.matching.specs.Matching.{withVenue, filledIn, withMatched, matchedIn, concerns, busy, ruleFills, withSwept, sweptIn}
 use Rattle.matching.specs.declared.Filled.{Filled}
 use Rattle.matching.specs.declared.Lots.{Lots}
 use Rattle.matching.specs.declared.Lots.the-variants as lots
@@ -83,33 +83,33 @@ module _ (o : VenueOrder) (n rest : ℕ) (e : rest ≡ remaining o) where
 -- ---- a fill up to its event
 -- what `stopped` gives
 abbrev HaltsAt : HaltReason → Venue → ℕ → Filled → Type 0
-HaltsAt h v raised r = (s : KernelState) (w : List ℕ) → seen (filledIn s r) w ≡ played (logAt w raised) (rules.haltAt h (withVenue s v))
+HaltsAt h v raised r = (s : KernelState) (w : List ℕ) → actual (filledIn s r) w ≡ expected (logAt w raised) (rules.haltAt h (withVenue s v))
 
 module _ (w : List ℕ) (raised : ℕ) (o : VenueOrder) (n : ℕ) (v : Venue)
     (next : MaybeU64) (e : next ≡ fitting (v .seqs .«stamp_seq» + 1)) where
   pub fill-unstamped : next ≡ u64.None → {r : Filled} → HaltsAt CounterOverflow v raised r
-      → (s : KernelState) → seen (filledIn s r) w ≡ played (logAt w raised) (fillEvent o n (withVenue s v))
+      → (s : KernelState) → actual (filledIn s r) w ≡ expected (logAt w raised) (fillEvent o n (withVenue s v))
   unfolding fillEvent stamp onWord rules.andThen
   fill-unstamped h f s = rw (← e, h) (f s w)
 
-  module _ (q : ℕ) (h : next ≡ u64.Some q) (gated : Gated) (eg : gateTold gated ≡ gateFilled (o .side) n (v .gate)) where
+  module _ (q : ℕ) (h : next ≡ u64.Some q) (gated : Gated) (eg : ruleGate gated ≡ gateFilled (o .side) n (v .gate)) where
     abbrev stamped : Venue
     stamped = record { «rng_latency» = v .«rng_latency»; clock = v .clock; seqs = seqsStampSeq (v .seqs) q; gate = v .gate; counters = v .counters }
 
     pub fill-ungated : gated ≡ Fail → {r : Filled} → HaltsAt CounterOverflow stamped raised r
-        → (s : KernelState) → seen (filledIn s r) w ≡ played (logAt w raised) (fillEvent o n (withVenue s v))
+        → (s : KernelState) → actual (filledIn s r) w ≡ expected (logAt w raised) (fillEvent o n (withVenue s v))
     unfolding fillEvent stamp onWord onSome rules.andThen
     fill-ungated g f s = rw (← e, h, ← eg, g) (f s w)
 
-    module _ (kept : GateState) (g : gated ≡ Kept kept) (doubled : MaybeU64) (ed : doubled ≡ fitting (o .price * 2)) where
+    module _ (kept : GateState) (g : gated ≡ Done kept) (doubled : MaybeU64) (ed : doubled ≡ fitting (o .price * 2)) where
       pub fill-priceless : doubled ≡ u64.None → {r : Filled} → HaltsAt LedgerOverflow stamped raised r
-          → (s : KernelState) → seen (filledIn s r) w ≡ played (logAt w raised) (fillEvent o n (withVenue s v))
+          → (s : KernelState) → actual (filledIn s r) w ≡ expected (logAt w raised) (fillEvent o n (withVenue s v))
       unfolding fillEvent stamp onWord onSome pick rules.andThen
       fill-priceless d f s = rw (← e, h, ← eg, g, fits-none (o .price * 2) (sym ed ∙ d)) (f s w)
 
       module _ (x : ℕ) (d : doubled ≡ u64.Some x) (exec : MaybeU64) (ex : exec ≡ fitting (v .seqs .«next_exec_id» + 1)) where
         pub fill-unnumbered : exec ≡ u64.None → {r : Filled} → HaltsAt CounterOverflow stamped raised r
-            → (s : KernelState) → seen (filledIn s r) w ≡ played (logAt w raised) (fillEvent o n (withVenue s v))
+            → (s : KernelState) → actual (filledIn s r) w ≡ expected (logAt w raised) (fillEvent o n (withVenue s v))
         unfolding fillEvent stamp onWord onSome pick rules.andThen
         fill-unnumbered k f s = rw (← e, h, ← eg, g, fits-some (o .price * 2) x (sym ed ∙ d), ← ex, k) (f s w)
 
@@ -118,22 +118,22 @@ module _ (w : List ℕ) (raised : ℕ) (o : VenueOrder) (n : ℕ) (v : Venue)
           numbered = record { «rng_latency» = v .«rng_latency»; clock = v .clock; seqs = seqsNextExecId (seqsStampSeq (v .seqs) q) k; gate = kept; counters = v .counters }
 
           pub fill-uncounted : count ≡ u64.None → {r : Filled} → HaltsAt CounterOverflow numbered raised r
-              → (s : KernelState) → seen (filledIn s r) w ≡ played (logAt w raised) (fillEvent o n (withVenue s v))
+              → (s : KernelState) → actual (filledIn s r) w ≡ expected (logAt w raised) (fillEvent o n (withVenue s v))
           unfolding fillEvent fillCounted stamp onWord onSome pick rules.andThen
           fill-uncounted m f s = rw (← e, h, ← eg, g, fits-some (o .price * 2) x (sym ed ∙ d), ← ex, j, ← ec, m) (f s w)
 
-          pub fill-told : (y m : ℕ) (w1 : List ℕ) (rec : FillRec) → count ≡ u64.Some y
+          pub fill-raised : (y m : ℕ) (w1 : List ℕ) (rec : FillRec) → count ≡ u64.Some y
               → rec ≡ recordAt (v .clock .«now_ns») (v .seqs .«next_exec_id») o n
-              → logAt w1 m ≡ note (logAt w raised) (Fill rec)
+              → logAt w1 m ≡ appendEvent (logAt w raised) (Fill rec)
               → (s : KernelState)
-              → seen (filledIn s (record {
+              → actual (filledIn s (record {
                 outcome = Ran;
                 venue = record { «rng_latency» = v .«rng_latency»; clock = v .clock; seqs = seqsNextExecId (seqsStampSeq (v .seqs) q) k; gate = kept; counters = countersVenueFills (v .counters) y };
                 raised = m;
               })) w1
-              ≡ played (logAt w raised) (fillEvent o n (withVenue s v))
-          unfolding fillEvent fillCounted stamp onWord onSome pick rules.andThen played noted
-          fill-told y m w1 rec c er em s = rw (← e, h, ← eg, g, fits-some (o .price * 2) x (sym ed ∙ d), ← ex, j, ← ec, c, ← er, ← em)
+              ≡ expected (logAt w raised) (fillEvent o n (withVenue s v))
+          unfolding fillEvent fillCounted stamp onWord onSome pick rules.andThen expected appendEvents
+          fill-raised y m w1 rec c er em s = rw (← e, h, ← eg, g, fits-some (o .price * 2) x (sym ed ∙ d), ← ex, j, ← ec, c, ← er, ← em)
 
 -- ---- behind the event: the order stored, the report and the delivery
 -- the state with the filled order stored
@@ -141,8 +141,8 @@ abbrev stored : ℕ → VenueOrder → KernelState → KernelState
 stored i o u = withOrders u (ordersOf (storeAt 8 i o (ordersRow (u .orders)) .list))
 
 -- s is the state at the stamp
-abbrev telling : Config → ℕ → VenueOrder → ℕ → KernelState → KernelState → rules.Run
-telling c i o n s u = queueDelivery c (fillReport s o n) (fill.Some (fillRecord s o n)) (stored i (filledBy n o) u)
+abbrev reporting : Config → ℕ → VenueOrder → ℕ → KernelState → KernelState → rules.Run
+reporting c i o n s u = queueDelivery c (fillReport s o n) (fill.Some (fillRecord s o n)) (stored i (filledBy n o) u)
 
 -- ---- what a row fills at a place
 module _ (mode : FillMode) (row : KernelTick) (os : Orders) (i : ℕ) (got : MaybeOrder) (e : orderIn got ≡ entryAt 8 blankOrder i (ordersRow os)) where
@@ -170,30 +170,30 @@ module _ (mode : FillMode) (row : KernelTick) (os : Orders) (i : ℕ) (got : May
 
 -- ---- the pass over the orders
 -- what is filled is the live order at that place, and no more of it than remains
-module _ (mode : FillMode) (row : KernelTick) (os : Orders) (i : ℕ) (r : Lots) (e : lotsTold r ≡ fillsAt mode row i os) where
+module _ (mode : FillMode) (row : KernelTick) (os : Orders) (i : ℕ) (r : Lots) (e : ruleFills r ≡ fillsAt mode row i os) where
   pub take-there : (o : VenueOrder) (n : ℕ) → r ≡ lots.Take o n → There i os (fills o n)
-  take-there o n h = subst (There i os) (sym e ∙ ap lotsTold h) (fills-there mode row i os)
+  take-there o n h = subst (There i os) (sym e ∙ ap ruleFills h) (fills-there mode row i os)
 
 -- a turn of the pass: q orders are left, j behind this one
 module _ (w : List ℕ) (raised : ℕ) (cfg : Config) (row : KernelTick) (i : ℕ) (v : Venue) (os : Orders) (ds : Deliveries) (q j : ℕ) (hq : q ≡ suc j)
-    (r : Lots) (e : lotsTold r ≡ fillsAt (cfg .fill) row i os) where
-  turn-is : (s : KernelState) → matchFrom cfg row q i (withMatched s v os ds) ≡ rules.andThen (filling cfg i (withMatched s v os ds) (lotsTold r)) (matchFrom cfg row j (i + 1))
+    (r : Lots) (e : ruleFills r ≡ fillsAt (cfg .fill) row i os) where
+  turn-is : (s : KernelState) → matchFrom cfg row q i (withMatched s v os ds) ≡ rules.andThen (filling cfg i (withMatched s v os ds) (ruleFills r)) (matchFrom cfg row j (i + 1))
   unfolding matchFrom matchAt
   turn-is s = rw (hq, ← e)
 
   pub match-past : r ≡ lots.Nothing → (s : KernelState)
-      → played (logAt w raised) (matchFrom cfg row j (i + 1) (withMatched s v os ds)) ≡ played (logAt w raised) (matchFrom cfg row q i (withMatched s v os ds))
+      → expected (logAt w raised) (matchFrom cfg row j (i + 1) (withMatched s v os ds)) ≡ expected (logAt w raised) (matchFrom cfg row q i (withMatched s v os ds))
   unfolding rules.andThen
   match-past h s = rw (turn-is s, h)
 
   pub match-fail : r ≡ lots.Fail → (s : KernelState)
-      → seen (matchedIn s (record { outcome = Halt CounterOverflow; venue = v; orders = os; deliveries = ds; raised = raised })) w ≡ played (logAt w raised) (matchFrom cfg row q i (withMatched s v os ds))
-  unfolding rules.andThen played noted
+      → actual (matchedIn s (record { outcome = Halt CounterOverflow; venue = v; orders = os; deliveries = ds; raised = raised })) w ≡ expected (logAt w raised) (matchFrom cfg row q i (withMatched s v os ds))
+  unfolding rules.andThen expected appendEvents
   match-fail h s = rw (turn-is s, h)
 
   -- a fill: a is what it left
   module _ (o : VenueOrder) (n : ℕ) (h : r ≡ lots.Take o n) (w1 : List ℕ) (a : Filled)
-      (ea : (s : KernelState) → seen (filledIn s a) w1 ≡ played (logAt w raised) (fillEvent o n (withVenue s v))) where
+      (ea : (s : KernelState) → actual (filledIn s a) w1 ≡ expected (logAt w raised) (fillEvent o n (withVenue s v))) where
     -- the state at the stamp
     abbrev start : KernelState → KernelState
     start s = withMatched s v os ds
@@ -202,25 +202,25 @@ module _ (w : List ℕ) (raised : ℕ) (cfg : Config) (row : KernelTick) (i : �
     take-is s = turn-is s ∙ rw h
 
     -- what stops the fill stops the pass; where it ran, the pass goes on
-    stops : (s : KernelState) (b : Step) (w2 : List ℕ) → Stopped (b .outcome) → seen b w2 ≡ played (logAt w raised) (fillAt cfg i o n (start s)) → seen b w2 ≡ played (logAt w raised) (matchFrom cfg row q i (start s))
+    stops : (s : KernelState) (b : Step) (w2 : List ℕ) → Stopped (b .outcome) → actual b w2 ≡ expected (logAt w raised) (fillAt cfg i o n (start s)) → actual b w2 ≡ expected (logAt w raised) (matchFrom cfg row q i (start s))
     stops s b w2 m p = rw (take-is s) (then-stop (logAt w raised) _ (matchFrom cfg row j (i + 1)) b w2 p m)
 
-    goes-on : (s : KernelState) (b : Step) (w2 : List ℕ) → b .outcome ≡ Ran → seen b w2 ≡ played (logAt w raised) (fillAt cfg i o n (start s))
-        → played (logAt w2 (b .raised)) (matchFrom cfg row j (i + 1) (b .state)) ≡ played (logAt w raised) (matchFrom cfg row q i (start s))
+    goes-on : (s : KernelState) (b : Step) (w2 : List ℕ) → b .outcome ≡ Ran → actual b w2 ≡ expected (logAt w raised) (fillAt cfg i o n (start s))
+        → expected (logAt w2 (b .raised)) (matchFrom cfg row j (i + 1) (b .state)) ≡ expected (logAt w raised) (matchFrom cfg row q i (start s))
     goes-on s b w2 k p = rw (take-is s) (sym (then-ran (logAt w raised) _ (matchFrom cfg row j (i + 1)) b w2 p k))
 
     pub match-stop : Stopped (a .outcome) → (s : KernelState)
-        → seen (matchedIn s (record { outcome = a .outcome; venue = a .venue; orders = os; deliveries = ds; raised = a .raised })) w1 ≡ played (logAt w raised) (matchFrom cfg row q i (start s))
+        → actual (matchedIn s (record { outcome = a .outcome; venue = a .venue; orders = os; deliveries = ds; raised = a .raised })) w1 ≡ expected (logAt w raised) (matchFrom cfg row q i (start s))
     unfolding fillAt
     match-stop m s =
         stops s (filledIn (withDeliveries (withOrders s os) ds) a) w1 m
-        (then-stop (logAt w raised) _ (telling cfg i o n (start s)) (filledIn (withDeliveries (withOrders s os) ds) a) w1 (ea (withDeliveries (withOrders s os) ds)) m)
+        (then-stop (logAt w raised) _ (reporting cfg i o n (start s)) (filledIn (withDeliveries (withOrders s os) ds) a) w1 (ea (withDeliveries (withOrders s os) ds)) m)
 
     -- the fill ran: the order is stored, b is what its report left
     module _ (k : a .outcome ≡ Ran) (filled : VenueOrder) (ef : filled ≡ filledBy n o) (kind : ExecKind) (ek : kind ≡ fillKind n o)
         (report : ReportRec) (er : report ≡ reportAt (v .clock .«now_ns») (v .seqs .«stamp_seq») filled kind (o .«cancel_inflight») n)
         (rec : FillRec) (ec : rec ≡ recordAt (v .clock .«now_ns») (v .seqs .«next_exec_id») o n)
-        (w2 : List ℕ) (b : Reported) (eb : (s : KernelState) → seen (reportedIn s b) w2 ≡ played (logAt w1 (a .raised)) (reported cfg report (withReport s (a .venue .«rng_latency») (a .venue .clock)))) where
+        (w2 : List ℕ) (b : Reported) (eb : (s : KernelState) → actual (reportedIn s b) w2 ≡ expected (logAt w1 (a .raised)) (reported cfg report (withReport s (a .venue .«rng_latency») (a .venue .clock)))) where
       t : There i os (fills o n)
       t = take-there (cfg .fill) row os i r e o n h
 
@@ -234,39 +234,39 @@ module _ (w : List ℕ) (raised : ℕ) (cfg : Config) (row : KernelTick) (i : �
       abbrev held : KernelState → KernelState
       held s = withMatched s (a .venue) store ds
 
-      telling-is : (s : KernelState) → telling cfg i o n (start s) (withMatched s (a .venue) os ds) ≡ rules.andThen (reported cfg report (held s)) (push-of report (fill.Some rec))
+      reporting-is : (s : KernelState) → reporting cfg i o n (start s) (withMatched s (a .venue) os ds) ≡ rules.andThen (reported cfg report (held s)) (push-of report (fill.Some rec))
       unfolding queueDelivery fillReport
-      telling-is s = rw (← ef, ← ek, ← er, ← ec, ← (store-in 8 (ordersRow os) filled i (t .1) (t .2)))
+      reporting-is s = rw (← ef, ← ek, ← er, ← ec, ← (store-in 8 (ordersRow os) filled i (t .1) (t .2)))
 
       -- the rest of the fill is the report, then the push
-      reports : (s : KernelState) {x : Seen} → x ≡ played (logAt w1 (a .raised)) (rules.andThen (reported cfg report (held s)) (push-of report (fill.Some rec)))
-          → x ≡ played (logAt w raised) (fillAt cfg i o n (start s))
+      reports : (s : KernelState) {x : StepResult} → x ≡ expected (logAt w1 (a .raised)) (rules.andThen (reported cfg report (held s)) (push-of report (fill.Some rec)))
+          → x ≡ expected (logAt w raised) (fillAt cfg i o n (start s))
       unfolding fillAt
       reports s p =
-          then-on (logAt w raised) _ (telling cfg i o n (start s)) (filledIn (withDeliveries (withOrders s os) ds) a) w1 (ea (withDeliveries (withOrders s os) ds)) k
-          (p ∙ ap (played (logAt w1 (a .raised))) (sym (telling-is s)))
+          then-on (logAt w raised) _ (reporting cfg i o n (start s)) (filledIn (withDeliveries (withOrders s os) ds) a) w1 (ea (withDeliveries (withOrders s os) ds)) k
+          (p ∙ ap (expected (logAt w1 (a .raised))) (sym (reporting-is s)))
 
       pub match-unreported : Stopped (b .outcome) → (s : KernelState)
-          → seen (matchedIn s (record { outcome = b .outcome; venue = venue; orders = store; deliveries = ds; raised = b .raised })) w2 ≡ played (logAt w raised) (matchFrom cfg row q i (start s))
+          → actual (matchedIn s (record { outcome = b .outcome; venue = venue; orders = store; deliveries = ds; raised = b .raised })) w2 ≡ expected (logAt w raised) (matchFrom cfg row q i (start s))
       match-unreported m s =
           stops s (reportedIn (held s) b) w2 m
           (reports s (then-stop (logAt w1 (a .raised)) _ (push-of report (fill.Some rec)) (reportedIn (held s) b) w2 (eb (held s)) m))
 
       -- the report ran: the delivery goes in, or the list is full
       module _ (l : b .outcome ≡ Ran) where
-        pushes : (s : KernelState) {x : Seen} → x ≡ played (logAt w2 (b .raised)) (push-of report (fill.Some rec) (withMatched s venue store ds)) → x ≡ played (logAt w raised) (fillAt cfg i o n (start s))
+        pushes : (s : KernelState) {x : StepResult} → x ≡ expected (logAt w2 (b .raised)) (push-of report (fill.Some rec) (withMatched s venue store ds)) → x ≡ expected (logAt w raised) (fillAt cfg i o n (start s))
         pushes s p = reports s (then-on (logAt w1 (a .raised)) _ (push-of report (fill.Some rec)) (reportedIn (held s) b) w2 (eb (held s)) l p)
 
         pub match-full : 24 ≤ ds .count → (s : KernelState)
-            → seen (matchedIn s (record { outcome = Halt CounterOverflow; venue = venue; orders = store; deliveries = ds; raised = b .raised })) w2 ≡ played (logAt w raised) (matchFrom cfg row q i (start s))
+            → actual (matchedIn s (record { outcome = Halt CounterOverflow; venue = venue; orders = store; deliveries = ds; raised = b .raised })) w2 ≡ expected (logAt w raised) (matchFrom cfg row q i (start s))
         match-full f s =
             stops s (matchedIn s (record { outcome = Halt CounterOverflow; venue = venue; orders = store; deliveries = ds; raised = b .raised })) w2 (inr (inl refl))
-            (pushes s (unfold pushDelivery rules.putting pick played noted in rw (← (put-full 24 (deliveriesRow ds) (ds .count) (record { «at_ns» = b .clock .«last_delivery_ns»; report = report; fill = fill.Some rec }) f))))
+            (pushes s (unfold pushDelivery rules.putting pick expected appendEvents in rw (← (put-full 24 (deliveriesRow ds) (ds .count) (record { «at_ns» = b .clock .«last_delivery_ns»; report = report; fill = fill.Some rec }) f))))
 
         pub match-on : ds .count < 24 → length (ds .slots) ≡ 24 → (s : KernelState)
-            → played (logAt w2 (b .raised)) (matchFrom cfg row j (i + 1) (withMatched s venue store
+            → expected (logAt w2 (b .raised)) (matchFrom cfg row j (i + 1) (withMatched s venue store
             (record { slots = set (ds .slots) (ds .count) (record { «at_ns» = b .clock .«last_delivery_ns»; report = report; fill = fill.Some rec }); count = ds .count + 1 })))
-            ≡ played (logAt w raised) (matchFrom cfg row q i (start s))
+            ≡ expected (logAt w raised) (matchFrom cfg row q i (start s))
         match-on f z s =
             goes-on s (matchedIn s (record {
               outcome = Ran;
@@ -275,12 +275,12 @@ module _ (w : List ℕ) (raised : ℕ) (cfg : Config) (row : KernelTick) (i : �
               deliveries = record { slots = set (ds .slots) (ds .count) (record { «at_ns» = b .clock .«last_delivery_ns»; report = report; fill = fill.Some rec }); count = ds .count + 1 };
               raised = b .raised;
             })) w2 refl
-            (pushes s (unfold pushDelivery rules.putting pick played noted in rw (← (push-in 24 (deliveriesRow ds) (record { «at_ns» = b .clock .«last_delivery_ns»; report = report; fill = fill.Some rec }) f z))))
+            (pushes s (unfold pushDelivery rules.putting pick expected appendEvents in rw (← (push-in 24 (deliveriesRow ds) (record { «at_ns» = b .clock .«last_delivery_ns»; report = report; fill = fill.Some rec }) f z))))
 
 pub match-end : (w : List ℕ) (raised : ℕ) (cfg : Config) (row : KernelTick) (i : ℕ) (v : Venue) (os : Orders) (ds : Deliveries) (q : ℕ) → q ≡ 0 → (s : KernelState)
-    → seen (matchedIn s (record { outcome = Ran; venue = v; orders = os; deliveries = ds; raised = raised })) w ≡ played (logAt w raised) (matchFrom cfg row q i (withMatched s v os ds))
+    → actual (matchedIn s (record { outcome = Ran; venue = v; orders = os; deliveries = ds; raised = raised })) w ≡ expected (logAt w raised) (matchFrom cfg row q i (withMatched s v os ds))
 unfolding matchFrom
-match-end w raised cfg row i v os ds q h s = rw h (played-ran (logAt w raised) (withMatched s v os ds))
+match-end w raised cfg row i v os ds q h s = rw h (expected-ran (logAt w raised) (withMatched s v os ds))
 
 -- ---- a terminal order that leaves
 module _ (os : Orders) (i : ℕ) (got : MaybeOrder) (e : orderIn got ≡ entryAt 8 blankOrder i (ordersRow os)) where
@@ -294,8 +294,8 @@ module _ (os : Orders) (i : ℕ) (got : MaybeOrder) (e : orderIn got ≡ entryAt
 
 module _ (i : ℕ) (os : Orders) (ms : Msgs) (aw : Orders) (taken : OrdersTaken) (e : ordersTaken taken ≡ takeAt 8 blankOrder i (ordersRow os)) where
   pub leave-none : taken .got ≡ found.None → (s : KernelState) (n : ℕ) (w : List ℕ)
-      → seen (sweptIn s n (record { outcome = Ran; orders = os; msgs = ms; awaiting = aw })) w ≡ played (logAt w n) (leave i (withSwept s os ms aw))
-  unfolding leave rules.taking onSome played noted
+      → actual (sweptIn s n (record { outcome = Ran; orders = os; msgs = ms; awaiting = aw })) w ≡ expected (logAt w n) (leave i (withSwept s os ms aw))
+  unfolding leave rules.taking onSome expected appendEvents
   leave-none h s n w = rw (← e, h)
 
   module _ (o : VenueOrder) (h : taken .got ≡ found.Some o) (fewer : Msgs) (ef : (s : KernelState) → withMsgs s fewer ≡ removeExpiry (o .id) (withMsgs s ms)) where
@@ -304,19 +304,19 @@ module _ (i : ℕ) (os : Orders) (ms : Msgs) (aw : Orders) (taken : OrdersTaken)
     gone s = ef (withSwept s (taken .list) ms aw)
 
     pub leave-unmarked : o .«cancel_inflight» ≡ false → (s : KernelState) (n : ℕ) (w : List ℕ)
-        → seen (sweptIn s n (record { outcome = Ran; orders = taken .list; msgs = fewer; awaiting = aw })) w ≡ played (logAt w n) (leave i (withSwept s os ms aw))
-    unfolding leave rules.taking onSome awaitMarked pick played noted
+        → actual (sweptIn s n (record { outcome = Ran; orders = taken .list; msgs = fewer; awaiting = aw })) w ≡ expected (logAt w n) (leave i (withSwept s os ms aw))
+    unfolding leave rules.taking onSome awaitMarked pick expected appendEvents
     leave-unmarked m s n w = rw (← e, h, m, ← gone s)
 
     module _ (m : o .«cancel_inflight» ≡ true) (put : OrdersPut) (ep : ordersPut put ≡ putBefore 8 (idAbove (o .id)) o (ordersRow aw)) where
       pub leave-full : put .ok ≡ false → (s : KernelState) (n : ℕ) (w : List ℕ)
-          → seen (sweptIn s n (record { outcome = Halt CounterOverflow; orders = taken .list; msgs = fewer; awaiting = aw })) w ≡ played (logAt w n) (leave i (withSwept s os ms aw))
-      unfolding leave rules.taking onSome awaitMarked await rules.putting pick played noted
+          → actual (sweptIn s n (record { outcome = Halt CounterOverflow; orders = taken .list; msgs = fewer; awaiting = aw })) w ≡ expected (logAt w n) (leave i (withSwept s os ms aw))
+      unfolding leave rules.taking onSome awaitMarked await rules.putting pick expected appendEvents
       leave-full k s n w = rw (← e, h, ← gone s, ← ep, m, k)
 
       pub leave-marked : put .ok ≡ true → (s : KernelState) (n : ℕ) (w : List ℕ)
-          → seen (sweptIn s n (record { outcome = Ran; orders = taken .list; msgs = fewer; awaiting = put .list })) w ≡ played (logAt w n) (leave i (withSwept s os ms aw))
-      unfolding leave rules.taking onSome awaitMarked await rules.putting pick played noted
+          → actual (sweptIn s n (record { outcome = Ran; orders = taken .list; msgs = fewer; awaiting = put .list })) w ≡ expected (logAt w n) (leave i (withSwept s os ms aw))
+      unfolding leave rules.taking onSome awaitMarked await rules.putting pick expected appendEvents
       leave-marked k s n w = rw (← e, h, ← gone s, ← ep, m, k)
 
 -- a look of the sweep: q looks are left, j behind this one
@@ -328,53 +328,53 @@ module _ (place : ℕ) (os : Orders) (ms : Msgs) (aw : Orders) (q j : ℕ) (hq :
   look-is s = rw (hq, ← e (withSwept s os ms aw))
 
   pub sweep-past : t ≡ false → (s : KernelState) (n : ℕ) (w : List ℕ)
-      → played (logAt w n) (sweepFrom j (place + 1) (withSwept s os ms aw)) ≡ played (logAt w n) (sweepFrom q place (withSwept s os ms aw))
+      → expected (logAt w n) (sweepFrom j (place + 1) (withSwept s os ms aw)) ≡ expected (logAt w n) (sweepFrom q place (withSwept s os ms aw))
   unfolding rules.andThen pick
   sweep-past h s n w = rw (look-is s, h)
 
-  module _ (h : t ≡ true) (a : Swept) (ea : (s : KernelState) (n : ℕ) (w : List ℕ) → seen (sweptIn s n a) w ≡ played (logAt w n) (leave place (withSwept s os ms aw))) where
+  module _ (h : t ≡ true) (a : Swept) (ea : (s : KernelState) (n : ℕ) (w : List ℕ) → actual (sweptIn s n a) w ≡ expected (logAt w n) (leave place (withSwept s os ms aw))) where
     left-is : (s : KernelState) → sweepFrom q place (withSwept s os ms aw) ≡ rules.andThen (leave place (withSwept s os ms aw)) (sweepFrom j place)
     unfolding pick
     left-is s = look-is s ∙ rw h
 
     pub sweep-on : a .outcome ≡ Ran → (s : KernelState) (n : ℕ) (w : List ℕ)
-        → played (logAt w n) (sweepFrom j place (withSwept s (a .orders) (a .msgs) (a .awaiting))) ≡ played (logAt w n) (sweepFrom q place (withSwept s os ms aw))
+        → expected (logAt w n) (sweepFrom j place (withSwept s (a .orders) (a .msgs) (a .awaiting))) ≡ expected (logAt w n) (sweepFrom q place (withSwept s os ms aw))
     sweep-on k s n w = rw (left-is s) (sym (then-ran (logAt w n) _ (sweepFrom j place) (sweptIn s n a) w (ea s n w) k))
 
     pub sweep-stop : Stopped (a .outcome) → (s : KernelState) (n : ℕ) (w : List ℕ)
-        → seen (sweptIn s n a) w ≡ played (logAt w n) (sweepFrom q place (withSwept s os ms aw))
+        → actual (sweptIn s n a) w ≡ expected (logAt w n) (sweepFrom q place (withSwept s os ms aw))
     sweep-stop m s n w = rw (left-is s) (then-stop (logAt w n) _ (sweepFrom j place) (sweptIn s n a) w (ea s n w) m)
 
 pub sweep-end : (place : ℕ) (os : Orders) (ms : Msgs) (aw : Orders) (q : ℕ) → q ≡ 0 → (s : KernelState) (n : ℕ) (w : List ℕ)
-    → seen (sweptIn s n (record { outcome = Ran; orders = os; msgs = ms; awaiting = aw })) w ≡ played (logAt w n) (sweepFrom q place (withSwept s os ms aw))
+    → actual (sweptIn s n (record { outcome = Ran; orders = os; msgs = ms; awaiting = aw })) w ≡ expected (logAt w n) (sweepFrom q place (withSwept s os ms aw))
 unfolding sweepFrom
-sweep-end place os ms aw q h s n w = rw h (played-ran (logAt w n) (withSwept s os ms aw))
+sweep-end place os ms aw q h s n w = rw h (expected-ran (logAt w n) (withSwept s os ms aw))
 
 -- ---- the mark
-pub mark-none : (g : GateState) (mid2 : ℕ) → mid2 ≡ 0 → g ≡ marked mid2 g
-unfolding marked pick
+pub mark-none : (g : GateState) (mid2 : ℕ) → mid2 ≡ 0 → g ≡ gateMarked mid2 g
+unfolding gateMarked pick
 mark-none g mid2 h = rw (eq-eqb mid2 0 h)
 
-pub mark-some : (g : GateState) (mid2 : ℕ) → (mid2 ≡ 0 → ⊥) → gateMark2 g (u64.Some mid2) ≡ marked mid2 g
-unfolding marked pick
+pub mark-some : (g : GateState) (mid2 : ℕ) → (mid2 ≡ 0 → ⊥) → gateMark2 g (u64.Some mid2) ≡ gateMarked mid2 g
+unfolding gateMarked pick
 mark-some g mid2 h = rw (ne-eqb mid2 0 h)
 
--- ---- an order that stirs
+-- ---- an order that the row concerns
 module _ (row : KernelTick) (o : VenueOrder) (t : Bool) (e : t ≡ isTerminal (o .state)) where
-  pub stirs-terminal : t ≡ true → true ≡ stirs row o
-  unfolding stirs pick
-  stirs-terminal h = rw (← e, h)
+  pub concerns-terminal : t ≡ true → true ≡ concerns row o
+  unfolding concerns pick
+  concerns-terminal h = rw (← e, h)
 
-  pub stirs-matched : t ≡ false → (b : Bool) → b ≡ matches row o → b ≡ stirs row o
-  unfolding stirs pick
-  stirs-matched h b k = rw (← e, h) k
+  pub concerns-matched : t ≡ false → (b : Bool) → b ≡ matches row o → b ≡ concerns row o
+  unfolding concerns pick
+  concerns-matched h b k = rw (← e, h) k
 
--- ---- whether a live order stirs
+-- ---- whether the row concerns a live order
 module _ (row : KernelTick) (os : Orders) where
-  pub busy-none : none ≡ foundIn (stirs row) (live 8 (ordersRow os)) → false ≡ busy row os
+  pub busy-none : none ≡ foundIn (concerns row) (live 8 (ordersRow os)) → false ≡ busy row os
   unfolding busy onSome
   busy-none h = rw (← h)
 
-  pub busy-some : (i : ℕ) → some i ≡ foundIn (stirs row) (live 8 (ordersRow os)) → true ≡ busy row os
+  pub busy-some : (i : ℕ) → some i ≡ foundIn (concerns row) (live 8 (ordersRow os)) → true ≡ busy row os
   unfolding busy onSome
   busy-some i h = rw (← h)

@@ -24,12 +24,12 @@ use Rattle.book.specs.declared.state.GateState.{GateState}
 use Rattle.book.specs.declared.state.HaltReason.{HaltReason}
 use Rattle.book.specs.declared.state.HaltReason.the-variants.{CounterOverflow}
 use Rattle.book.specs.declared.state.KernelState.{KernelState}
-use Rattle.models.specs.Told.{gateTold}
+use Rattle.models.specs.Rules.{ruleGate}
 use Rattle.models.specs.declared.gate.Gated.{Gated}
-use Rattle.models.specs.declared.gate.Gated.the-variants.{Fail, Kept}
+use Rattle.models.specs.declared.gate.Gated.the-variants.{Fail, Done}
 use Rattle.rules.specs.Run as rules
 use Rattle.rules.specs.Messages.{released, release, await, awaitMarked, book, schedule, removeExpiry, scheduleExpiry}
-use Rattle.reports.specs.Log.{logAt, noted, played, seen}
+use Rattle.reports.specs.Log.{logAt, appendEvents, expected, actual}
 use Rattle.reports.specs.declared.Outcome.the-variants.{Ran, Halt}
 use Rattle.reports.specs.declared.Step.{Step}
 
@@ -49,63 +49,63 @@ is-true true h = refl
 is-true false h = sym h
 
 -- ---- the gate's release
-module _ (raised lots : ℕ) (o : VenueOrder) (s : KernelState) (g : Gated) (n : lots ≡ remaining o) (e : gateTold g ≡ released (o .side) lots (s .gate)) where
-  pub release-kept : {x : GateState} → g ≡ Kept x → (w : List ℕ) → seen (ranStep (withGate s x) raised) w ≡ played (logAt w raised) (release o s)
-  unfolding release onSome played noted
+module _ (raised lots : ℕ) (o : VenueOrder) (s : KernelState) (g : Gated) (n : lots ≡ remaining o) (e : ruleGate g ≡ released (o .side) lots (s .gate)) where
+  pub release-kept : {x : GateState} → g ≡ Done x → (w : List ℕ) → actual (ranStep (withGate s x) raised) w ≡ expected (logAt w raised) (release o s)
+  unfolding release onSome expected appendEvents
   release-kept h w = rw (← n, ← e, h)
 
-  pub release-fail : g ≡ Fail → (w : List ℕ) → seen (haltStep CounterOverflow s raised) w ≡ played (logAt w raised) (release o s)
-  unfolding release onSome played noted
+  pub release-fail : g ≡ Fail → (w : List ℕ) → actual (haltStep CounterOverflow s raised) w ≡ expected (logAt w raised) (release o s)
+  unfolding release onSome expected appendEvents
   release-fail h w = rw (← n, ← e, h)
 
 -- ---- the lists of orders and messages
 module _ (raised : ℕ) (o : VenueOrder) (s : KernelState) where
-  pub await-unmarked : not (o .«cancel_inflight») ≡ true → (w : List ℕ) → seen (ranStep s raised) w ≡ played (logAt w raised) (awaitMarked o s)
-  unfolding awaitMarked pick played noted
+  pub await-unmarked : not (o .«cancel_inflight») ≡ true → (w : List ℕ) → actual (ranStep s raised) w ≡ expected (logAt w raised) (awaitMarked o s)
+  unfolding awaitMarked pick expected appendEvents
   await-unmarked h w = rw (is-false (o .«cancel_inflight») h)
 
   module _ (h : not (o .«cancel_inflight») ≡ false) (put : OrdersPut) (e : ordersPut put ≡ putBefore 8 (idAbove (o .id)) o (ordersRow (s .awaiting))) where
-    pub await-in : not (put .ok) ≡ false → (w : List ℕ) → seen (ranStep (withAwaiting s (put .list)) raised) w ≡ played (logAt w raised) (awaitMarked o s)
-    unfolding awaitMarked await rules.putting pick played noted
+    pub await-in : not (put .ok) ≡ false → (w : List ℕ) → actual (ranStep (withAwaiting s (put .list)) raised) w ≡ expected (logAt w raised) (awaitMarked o s)
+    unfolding awaitMarked await rules.putting pick expected appendEvents
     await-in k w = rw (← e, is-true (o .«cancel_inflight») h, is-true (put .ok) k)
 
-    pub await-full : not (put .ok) ≡ true → (w : List ℕ) → seen (haltStep CounterOverflow s raised) w ≡ played (logAt w raised) (awaitMarked o s)
-    unfolding awaitMarked await rules.putting pick played noted
+    pub await-full : not (put .ok) ≡ true → (w : List ℕ) → actual (haltStep CounterOverflow s raised) w ≡ expected (logAt w raised) (awaitMarked o s)
+    unfolding awaitMarked await rules.putting pick expected appendEvents
     await-full k w = rw (← e, is-true (o .«cancel_inflight») h, is-false (put .ok) k)
 
   module _ (put : OrdersPut) (e : ordersPut put ≡ pushed 8 o (ordersRow (s .orders))) where
-    pub book-in : not (put .ok) ≡ false → (w : List ℕ) → seen (ranStep (withOrders s (put .list)) raised) w ≡ played (logAt w raised) (book o s)
-    unfolding book rules.putting pick played noted
+    pub book-in : not (put .ok) ≡ false → (w : List ℕ) → actual (ranStep (withOrders s (put .list)) raised) w ≡ expected (logAt w raised) (book o s)
+    unfolding book rules.putting pick expected appendEvents
     book-in k w = rw (← e, is-true (put .ok) k)
 
-    pub book-full : not (put .ok) ≡ true → (w : List ℕ) → seen (haltStep CounterOverflow s raised) w ≡ played (logAt w raised) (book o s)
-    unfolding book rules.putting pick played noted
+    pub book-full : not (put .ok) ≡ true → (w : List ℕ) → actual (haltStep CounterOverflow s raised) w ≡ expected (logAt w raised) (book o s)
+    unfolding book rules.putting pick expected appendEvents
     book-full k w = rw (← e, is-false (put .ok) k)
 
 module _ (raised at : ℕ) (kind : MsgKind) (s : KernelState) (next : MaybeU64) (e : next ≡ fitting (s .seqs .«next_msg_seq» + 1)) where
-  pub schedule-none : next ≡ u64.None → (w : List ℕ) → seen (haltStep CounterOverflow s raised) w ≡ played (logAt w raised) (schedule at kind s)
-  unfolding schedule onWord played noted
+  pub schedule-none : next ≡ u64.None → (w : List ℕ) → actual (haltStep CounterOverflow s raised) w ≡ expected (logAt w raised) (schedule at kind s)
+  unfolding schedule onWord expected appendEvents
   schedule-none h w = rw (← e, h)
 
   module _ {n : ℕ} (h : next ≡ u64.Some n) (put : MsgsPut)
       (p : msgsPut put ≡ putBefore 16 (isLater at (s .seqs .«next_msg_seq»)) (record { «eff_ns» = at; seq = s .seqs .«next_msg_seq»; kind = kind }) (msgsRow (s .msgs))) where
     pub schedule-in : not (put .ok) ≡ false → (w : List ℕ)
-        → seen (ranStep (withMsgs (withSeqs s (seqsNextMsgSeq (s .seqs) n)) (put .list)) raised) w ≡ played (logAt w raised) (schedule at kind s)
-    unfolding schedule onWord rules.putting pick played noted
+        → actual (ranStep (withMsgs (withSeqs s (seqsNextMsgSeq (s .seqs) n)) (put .list)) raised) w ≡ expected (logAt w raised) (schedule at kind s)
+    unfolding schedule onWord rules.putting pick expected appendEvents
     schedule-in k w = rw (← e, h, ← p, is-true (put .ok) k)
 
     pub schedule-full : not (put .ok) ≡ true → (w : List ℕ)
-        → seen (haltStep CounterOverflow (withSeqs s (seqsNextMsgSeq (s .seqs) n)) raised) w ≡ played (logAt w raised) (schedule at kind s)
-    unfolding schedule onWord rules.putting pick played noted
+        → actual (haltStep CounterOverflow (withSeqs s (seqsNextMsgSeq (s .seqs) n)) raised) w ≡ expected (logAt w raised) (schedule at kind s)
+    unfolding schedule onWord rules.putting pick expected appendEvents
     schedule-full k w = rw (← e, h, ← p, is-false (put .ok) k)
 
 module _ (raised id : ℕ) (s : KernelState) (expiry : MaybeU64) where
-  pub no-expiry : expiry ≡ u64.None → (w : List ℕ) → seen (ranStep s raised) w ≡ played (logAt w raised) (scheduleExpiry expiry id s)
-  unfolding scheduleExpiry onWord played noted
+  pub no-expiry : expiry ≡ u64.None → (w : List ℕ) → actual (ranStep s raised) w ≡ expected (logAt w raised) (scheduleExpiry expiry id s)
+  unfolding scheduleExpiry onWord expected appendEvents
   no-expiry h w = rw h
 
-  pub some-expiry : {at : ℕ} → expiry ≡ u64.Some at → (a : Step) → ((w : List ℕ) → seen a w ≡ played (logAt w raised) (schedule at (Expire id) s))
-      → (w : List ℕ) → seen a w ≡ played (logAt w raised) (scheduleExpiry expiry id s)
+  pub some-expiry : {at : ℕ} → expiry ≡ u64.Some at → (a : Step) → ((w : List ℕ) → actual a w ≡ expected (logAt w raised) (schedule at (Expire id) s))
+      → (w : List ℕ) → actual a w ≡ expected (logAt w raised) (scheduleExpiry expiry id s)
   unfolding scheduleExpiry onWord
   some-expiry h a e w = rw h (e w)
 

@@ -1,4 +1,4 @@
--- The laws of the log: the copy of an event's words, the part that is lent to its writer, and the events noted one by one. Assumes nothing.
+-- The laws of the log: the copy of an event's words, the part that is lent to its writer, and the events appended one by one. Assumes nothing.
 use mathlib.Core.Path.{_≡_, refl, sym, ap, _∙_}
 use mathlib.Core.List.{List, [], _∷_, _++_, append-nil, append-assoc}
 use Prim.Native.Nat.{ℕ, suc, _+_, _-_, _*_, _/_, _<_, _≤_, min}
@@ -16,7 +16,7 @@ use Rattle.numbers.specs.Choice.{pick}
 use Rattle.book.specs.declared.state.KernelEvent.{KernelEvent}
 use Rattle.book.specs.declared.state.KernelEvent.the-variants.{Report, Fill, Delivered, Observed, RowEnd, EndOfData, Halted, DroppedMsg, Expired, DroppedExpiry}
 use Rattle.rules.specs.Log.{eventWords, written}
-use Rattle.reports.specs.Log.{top, Log, logAt, note, noted}
+use Rattle.reports.specs.Log.{top, Log, logAt, appendEvent, appendEvents}
 
 -- a turn of the loop that copies s over the front of d
 pub copy-turn : (d s : List ℕ) (j : ℕ) → j < length d → j < length s
@@ -64,29 +64,29 @@ lent xs ys a e h hy =
     rw (hy, q, p, append-nil)
 
 -- ---- emit: an event that is written; one past the room; one past the largest count
-pub note-written : (xs ys : List ℕ) (n : ℕ) (e : KernelEvent) → n < top → ys ≡ take (n * 12) xs ++ written (drop (n * 12) xs) (e ∷ []) → logAt ys (n + 1) ≡ note (logAt xs n) e
-unfolding note pick
-note-written xs ys n e h k =
+pub append-written : (xs ys : List ℕ) (n : ℕ) (e : KernelEvent) → n < top → ys ≡ take (n * 12) xs ++ written (drop (n * 12) xs) (e ∷ []) → logAt ys (n + 1) ≡ appendEvent (logAt xs n) e
+unfolding appendEvent pick
+append-written xs ys n e h k =
     let c : min (n + 1) top ≡ n + 1 = omega arith in
     rw (k, lt-ltb n top h, c)
 
-pub note-past : (xs : List ℕ) (n : ℕ) (e : KernelEvent) → n < top → length xs / 12 ≤ n → logAt xs (n + 1) ≡ note (logAt xs n) e
-note-past xs n e h k =
+pub append-past : (xs : List ℕ) (n : ℕ) (e : KernelEvent) → n < top → length xs / 12 ≤ n → logAt xs (n + 1) ≡ appendEvent (logAt xs n) e
+append-past xs n e h k =
     let l : length (drop (n * 12) xs) < 12 = simp length-drop (omega arith) in
-    note-written xs xs n e h (rw (no-room (drop (n * 12) xs) e l) (sym (take-append-drop (n * 12) xs)))
+    append-written xs xs n e h (rw (no-room (drop (n * 12) xs) e l) (sym (take-append-drop (n * 12) xs)))
 
-pub note-full : (xs : List ℕ) (n : ℕ) (e : KernelEvent) → n ≡ top → logAt xs n ≡ note (logAt xs n) e
-unfolding note pick
-note-full xs n e h =
+pub append-full : (xs : List ℕ) (n : ℕ) (e : KernelEvent) → n ≡ top → logAt xs n ≡ appendEvent (logAt xs n) e
+unfolding appendEvent pick
+append-full xs n e h =
     rw h
 
--- ---- noted one by one
-pub noted-append : (l : Log) (es fs : List KernelEvent) → noted (noted l es) fs ≡ noted l (es ++ fs)
-unfolding noted
-noted-append l [] fs = refl
-noted-append l (e ∷ es) fs = noted-append (note l e) es fs
+-- ---- appended one by one
+pub appended-append : (l : Log) (es fs : List KernelEvent) → appendEvents (appendEvents l es) fs ≡ appendEvents l (es ++ fs)
+unfolding appendEvents
+appended-append l [] fs = refl
+appended-append l (e ∷ es) fs = appended-append (appendEvent l e) es fs
 
--- ---- from the log's start, as far as the count goes, the events noted are those written
+-- ---- from the log's start, as far as the count goes, the events appended are those written
 written-nowhere : (es : List KernelEvent) → written [] es ≡ []
 unfolding written pick
 written-nowhere [] = refl
@@ -113,18 +113,18 @@ one-more n w e es false h =
     rw (h, front (take (n * 12) w) (eventWords e) (drop 12 (drop (n * 12) w)) ((n + 1) * 12) q, back (take (n * 12) w) (eventWords e) (drop 12 (drop (n * 12) w)) ((n + 1) * 12) q)
     (append-assoc (take (n * 12) w) (eventWords e) (written (drop 12 (drop (n * 12) w)) es))
 
-noted-from : (n : ℕ) (w : List ℕ) (es : List KernelEvent) → n + length es ≤ top
-    → noted (logAt w n) es ≡ logAt (take (n * 12) w ++ written (drop (n * 12) w) es) (n + length es)
-unfolding noted
-noted-from n w [] h = unfold written in rw (take-append-drop (n * 12) w, add-zero)
-noted-from n w (e ∷ es) h =
+appended-from : (n : ℕ) (w : List ℕ) (es : List KernelEvent) → n + length es ≤ top
+    → appendEvents (logAt w n) es ≡ logAt (take (n * 12) w ++ written (drop (n * 12) w) es) (n + length es)
+unfolding appendEvents
+appended-from n w [] h = unfold written in rw (take-append-drop (n * 12) w, add-zero)
+appended-from n w (e ∷ es) h =
     let v : List ℕ = take (n * 12) w ++ written (drop (n * 12) w) (e ∷ []) in
     let c : n + 1 + length es ≡ n + suc (length es) = omega arith in
-    rw (← (note-written w v n e (omega arith) refl)) (noted-from (n + 1) v es (omega arith) ∙ rw (one-more n w e es (ltb (length (drop (n * 12) w)) 12) refl, c))
+    rw (← (append-written w v n e (omega arith) refl)) (appended-from (n + 1) v es (omega arith) ∙ rw (one-more n w e es (ltb (length (drop (n * 12) w)) 12) refl, c))
 
 -- a whole call
-pub noted-all : (w : List ℕ) (es : List KernelEvent) → length es ≤ top → noted (logAt w 0) es ≡ logAt (written w es) (length es)
-noted-all w es h = noted-from 0 w es (omega arith) ∙ rw zero-add
+pub appended-all : (w : List ℕ) (es : List KernelEvent) → length es ≤ top → appendEvents (logAt w 0) es ≡ logAt (written w es) (length es)
+appended-all w es h = appended-from 0 w es (omega arith) ∙ rw zero-add
 
 -- a number of 64 bits that is not the largest is below it
 pub below-top : (n : ℕ) → (n ≡ top → ⊥) → Fits w64 n → n < top

@@ -11,11 +11,24 @@ pub mod state;
 use numbers::words::saturating_sub;
 ghost use mathlib.Core.Path.{_≡_};
 ghost use Rattle.book.specs.Entries.{remaining, inState, isTerminal, blankOrder, blankMsg, blankDelivery, blankObs};
+ghost use Rattle.book.specs.Numbers.{sideNumber, execNumber, originNumber, flagNumber};
 
 // The Rust's Dir.
 pub enum Side {
     Buy,
     Sell,
+}
+
+impl Side {
+    // The paper's number.
+    pub fn number(self) -> u64
+        ensures { λ r. ⌜ r ≡ sideNumber self ⌝ }
+    {
+        match self {
+            Side::Buy => 0,
+            Side::Sell => 1,
+        }
+    }
 }
 
 pub enum OrderState {
@@ -127,10 +140,48 @@ pub enum ExecKind {
     Fill,
 }
 
+impl ExecKind {
+    // The paper's number.
+    pub fn number(self) -> u64
+        ensures { λ r. ⌜ r ≡ execNumber self ⌝ }
+    {
+        match self {
+            ExecKind::Accepted => 0,
+            ExecKind::Rejected => 1,
+            ExecKind::Canceled => 2,
+            ExecKind::CancelRejected => 3,
+            ExecKind::PartialFill => 4,
+            ExecKind::Fill => 5,
+        }
+    }
+}
+
 // Where a report was produced.
 pub enum Origin {
     Local,
     Venue,
+}
+
+impl Origin {
+    // The paper's number.
+    pub fn number(self) -> u64
+        ensures { λ r. ⌜ r ≡ originNumber self ⌝ }
+    {
+        match self {
+            Origin::Local => 0,
+            Origin::Venue => 1,
+        }
+    }
+}
+
+// A yes or no as a word.
+pub fn flag_number(flag: bool) -> u64
+    ensures { λ r. ⌜ r ≡ flagNumber flag ⌝ }
+{
+    if flag {
+        return 1;
+    }
+    0
 }
 
 pub struct ReportRec {

@@ -9,6 +9,12 @@ use super::observed::Observed;
 use super::orders::Orders;
 use numbers::MaybeU64;
 use numbers::position::Position;
+ghost use mathlib.Core.Path.{_≡_};
+ghost use Rattle.book.specs.Entries.{isTerminalPhase};
+ghost use Rattle.book.specs.Numbers.{haltNumber, refusalNumber};
+ghost use Rattle.book.specs.With.{controlPhase, controlResume, controlCursor, controlCurRow, controlStatus};
+ghost use Rattle.book.specs.declared.state.Phase.the-variants.{BeforeMatch, AwaitDecision, Terminal};
+ghost use Rattle.numbers.specs.declared.MaybeU64.the-variants.{Some};
 
 pub enum Phase {
     BeforeMatch,
@@ -17,10 +23,36 @@ pub enum Phase {
     Terminal,
 }
 
+impl Phase {
+    pub fn is_terminal(self) -> bool
+        ensures { λ r. ⌜ r ≡ isTerminalPhase self ⌝ }
+    {
+        match self {
+            Phase::BeforeMatch => false,
+            Phase::ObsQueued => false,
+            Phase::AwaitDecision => false,
+            Phase::Terminal => true,
+        }
+    }
+}
+
 pub enum HaltReason {
     LedgerOverflow,
     TimeOverflow,
     CounterOverflow,
+}
+
+impl HaltReason {
+    // The paper's number.
+    pub fn number(self) -> u64
+        ensures { λ r. ⌜ r ≡ haltNumber self ⌝ }
+    {
+        match self {
+            HaltReason::LedgerOverflow => 5,
+            HaltReason::TimeOverflow => 6,
+            HaltReason::CounterOverflow => 7,
+        }
+    }
 }
 
 pub enum Status {
@@ -38,6 +70,74 @@ pub struct Control {
     pub cur_row: MaybeU64,
     pub step: u64,
     pub status: Status,
+}
+
+// A field that is an enum is not stored to, so each turn of the control makes it anew.
+impl Control {
+    pub fn in_phase(self, phase: Phase) -> Control
+        ensures { λ r. ⌜ r ≡ controlPhase self phase ⌝ }
+    {
+        let resume = self.resume;
+        let cur_row = self.cur_row;
+        let status = self.status;
+        Control {
+            phase,
+            resume,
+            cursor: self.cursor,
+            cur_row,
+            step: self.step,
+            status,
+        }
+    }
+
+    // The run is over.
+    pub fn ended(self, status: Status) -> Control
+        ensures { λ r. ⌜ r ≡ controlStatus (controlPhase self Terminal) status ⌝ }
+    {
+        let resume = self.resume;
+        let cur_row = self.cur_row;
+        Control {
+            phase: Phase::Terminal,
+            resume,
+            cursor: self.cursor,
+            cur_row,
+            step: self.step,
+            status,
+        }
+    }
+
+    // The run waits for a decision.
+    pub fn paused(self) -> Control
+        ensures { λ r. ⌜ r ≡ controlPhase (controlResume self (self .phase)) AwaitDecision ⌝ }
+    {
+        let phase = self.phase;
+        let cur_row = self.cur_row;
+        let status = self.status;
+        Control {
+            phase: Phase::AwaitDecision,
+            resume: phase,
+            cursor: self.cursor,
+            cur_row,
+            step: self.step,
+            status,
+        }
+    }
+
+    // The cursor's row becomes the current one.
+    pub fn at_row(self, next: u64) -> Control
+        ensures { λ r. ⌜ r ≡ controlPhase (controlCursor (controlCurRow self (Some (self .cursor))) next) BeforeMatch ⌝ }
+    {
+        let resume = self.resume;
+        let status = self.status;
+        Control {
+            phase: Phase::BeforeMatch,
+            resume,
+            cursor: next,
+            cur_row: MaybeU64::Some(self.cursor),
+            step: self.step,
+            status,
+        }
+    }
 }
 
 // The time, and the times of the last delivery and the last observation that were queued.
@@ -114,4 +214,19 @@ pub enum Refusal {
     NotPaused,
     NoResume,
     StepLimit,
+}
+
+impl Refusal {
+    // The paper's number.
+    pub fn number(self) -> u64
+        ensures { λ r. ⌜ r ≡ refusalNumber self ⌝ }
+    {
+        match self {
+            Refusal::RowWords => 101,
+            Refusal::ListCount => 102,
+            Refusal::NotPaused => 103,
+            Refusal::NoResume => 104,
+            Refusal::StepLimit => 105,
+        }
+    }
 }

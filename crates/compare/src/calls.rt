@@ -17,8 +17,6 @@ use super::output::put_newline;
 use super::state::put_state;
 use book::config::Config;
 use book::state::KernelState;
-use book::state::Phase;
-use book::state::Refusal;
 use kernel::Advanced;
 use kernel::Answer;
 use kernel::advance;
@@ -28,32 +26,10 @@ use numbers::words::checked_add;
 use numbers::words::wrapping_mul;
 ghost use Prim.Native.Nat.{_*_, _≤_};
 
-fn answer_number(answer: Answer) -> u64 {
-    match answer {
-        Answer::Ran => 0,
-        Answer::Refused(refusal) => refusal_number(refusal),
-    }
-}
-
-fn refusal_number(refusal: Refusal) -> u64 {
-    match refusal {
-        Refusal::RowWords => 101,
-        Refusal::ListCount => 102,
-        Refusal::NotPaused => 103,
-        Refusal::NoResume => 104,
-        Refusal::StepLimit => 105,
-    }
-}
-
 fn is_ended(s: KernelState) -> bool {
     let control = s.control;
     let phase = control.phase;
-    match phase {
-        Phase::BeforeMatch => false,
-        Phase::ObsQueued => false,
-        Phase::AwaitDecision => false,
-        Phase::Terminal => true,
-    }
+    phase.is_terminal()
 }
 
 // `advance` on the words of rows and log that the case has.
@@ -114,7 +90,7 @@ fn put_outcome(
     words: usize,
 ) {
     let n = kept(raised, words);
-    put_line(out, at, b"answer", answer_number(answer));
+    put_line(out, at, b"answer", answer.number());
     put_line(out, at, b"count", raised);
     put_line(out, at, b"kept", word(n));
     put_events(out, at, log, n);
@@ -192,7 +168,7 @@ fn turn_advance(g: Given, rows: &Rows, log: &mut Log, t: Turns) -> Turns {
     let state = a.state;
     let tally = after_advance(
         t.tally,
-        answer_number(answer),
+        answer.number(),
         a.events,
         is_ended(state),
         log,
@@ -207,7 +183,7 @@ fn turn_pass(t: Turns) -> Turns {
     let answer = p.answer;
     let state = p.state;
     let mut tally = t.tally;
-    tally.answer = answer_number(answer);
+    tally.answer = answer.number();
     tally.more = tally.answer == 0;
     Turns { tally, state }
 }

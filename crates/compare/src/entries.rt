@@ -32,6 +32,7 @@ use book::VenueOrder;
 use book::account::AgentAccount;
 use book::account::OpenOrder;
 use book::deliveries::Deliveries;
+use book::flag_number;
 use book::msgs::Msgs;
 use book::observed::Observed;
 use book::orders::Orders;
@@ -46,13 +47,6 @@ pub fn least(a: usize, b: usize) -> usize
     b
 }
 
-pub fn flag_number(flag: bool) -> u64 {
-    if flag {
-        return 1;
-    }
-    0
-}
-
 // The enums by their numbers. A number that is none of theirs is bad, and the last case stands for it.
 
 fn read_side(block: &mut Block, r: &mut Reader) -> Side {
@@ -60,13 +54,6 @@ fn read_side(block: &mut Block, r: &mut Reader) -> Side {
         return Side::Sell;
     }
     Side::Buy
-}
-
-fn side_number(side: Side) -> u64 {
-    match side {
-        Side::Buy => 0,
-        Side::Sell => 1,
-    }
 }
 
 fn read_order_state(block: &mut Block, r: &mut Reader) -> OrderState {
@@ -105,29 +92,11 @@ fn read_exec(block: &mut Block, r: &mut Reader) -> ExecKind {
     }
 }
 
-fn exec_number(kind: ExecKind) -> u64 {
-    match kind {
-        ExecKind::Accepted => 0,
-        ExecKind::Rejected => 1,
-        ExecKind::Canceled => 2,
-        ExecKind::CancelRejected => 3,
-        ExecKind::PartialFill => 4,
-        ExecKind::Fill => 5,
-    }
-}
-
 fn read_origin(block: &mut Block, r: &mut Reader) -> Origin {
     if flag(block, r) {
         return Origin::Venue;
     }
     Origin::Local
-}
-
-fn origin_number(origin: Origin) -> u64 {
-    match origin {
-        Origin::Local => 0,
-        Origin::Venue => 1,
-    }
 }
 
 // Orders.
@@ -157,7 +126,7 @@ fn put_order(out: &mut Block, at: &mut Place, o: VenueOrder) {
     let side = o.side;
     let state = o.state;
     put_field(out, at, o.id);
-    put_field(out, at, side_number(side));
+    put_field(out, at, side.number());
     put_field(out, at, o.price);
     put_field(out, at, o.qty);
     put_field(out, at, o.filled);
@@ -170,7 +139,7 @@ pub fn read_orders(block: &mut Block, r: &mut Reader, name: &[u8]) -> Orders {
     let count = size(number(block, r, name));
     let mut list = Orders::new();
     list.count = count;
-    for i in 0..least(count, 8) {
+    for i in 0..least(count, book::orders::CAPACITY) {
         label(block, r, b"order");
         let o = read_order(block, r);
         newline(block, r);
@@ -181,7 +150,7 @@ pub fn read_orders(block: &mut Block, r: &mut Reader, name: &[u8]) -> Orders {
 
 pub fn put_orders(out: &mut Block, at: &mut Place, name: &[u8], list: Orders) {
     put_line(out, at, name, word(list.count));
-    for i in 0..least(list.count, 8) {
+    for i in 0..least(list.count, book::orders::CAPACITY) {
         let o = list.slots[i];
         put_bytes(out, at, b"order");
         put_order(out, at, o);
@@ -243,7 +212,7 @@ pub fn read_msgs(block: &mut Block, r: &mut Reader) -> Msgs {
     let count = size(number(block, r, b"msgs"));
     let mut list = Msgs::new();
     list.count = count;
-    for i in 0..least(count, 16) {
+    for i in 0..least(count, book::msgs::CAPACITY) {
         label(block, r, b"msg");
         let m = read_msg(block, r);
         newline(block, r);
@@ -254,7 +223,7 @@ pub fn read_msgs(block: &mut Block, r: &mut Reader) -> Msgs {
 
 pub fn put_msgs(out: &mut Block, at: &mut Place, list: Msgs) {
     put_line(out, at, b"msgs", word(list.count));
-    for i in 0..least(list.count, 16) {
+    for i in 0..least(list.count, book::msgs::CAPACITY) {
         let m = list.slots[i];
         put_bytes(out, at, b"msg");
         put_msg(out, at, m);
@@ -298,9 +267,9 @@ fn put_report(out: &mut Block, at: &mut Place, p: ReportRec) {
     put_field(out, at, p.ts_ns);
     put_field(out, at, p.seq);
     put_field(out, at, p.order_id);
-    put_field(out, at, side_number(side));
-    put_field(out, at, exec_number(kind));
-    put_field(out, at, origin_number(origin));
+    put_field(out, at, side.number());
+    put_field(out, at, kind.number());
+    put_field(out, at, origin.number());
     put_field(out, at, flag_number(p.cancel_pending));
     put_field(out, at, p.price);
     put_field(out, at, p.qty);
@@ -330,7 +299,7 @@ fn put_record(out: &mut Block, at: &mut Place, f: FillRec) {
     put_field(out, at, f.ts_ns);
     put_field(out, at, f.exec_id);
     put_field(out, at, f.order_id);
-    put_field(out, at, side_number(side));
+    put_field(out, at, side.number());
     put_field(out, at, f.price);
     put_field(out, at, f.qty);
 }
@@ -377,7 +346,7 @@ pub fn read_deliveries(block: &mut Block, r: &mut Reader) -> Deliveries {
     let count = size(number(block, r, b"deliveries"));
     let mut list = Deliveries::new();
     list.count = count;
-    for i in 0..least(count, 24) {
+    for i in 0..least(count, book::deliveries::CAPACITY) {
         label(block, r, b"delivery");
         let d = read_delivery(block, r);
         newline(block, r);
@@ -388,7 +357,7 @@ pub fn read_deliveries(block: &mut Block, r: &mut Reader) -> Deliveries {
 
 pub fn put_deliveries(out: &mut Block, at: &mut Place, list: Deliveries) {
     put_line(out, at, b"deliveries", word(list.count));
-    for i in 0..least(list.count, 24) {
+    for i in 0..least(list.count, book::deliveries::CAPACITY) {
         let d = list.slots[i];
         put_bytes(out, at, b"delivery");
         put_delivery(out, at, d);
@@ -408,7 +377,7 @@ pub fn read_observed(block: &mut Block, r: &mut Reader) -> Observed {
     let count = size(number(block, r, b"observed"));
     let mut list = Observed::new();
     list.count = count;
-    for i in 0..least(count, 16) {
+    for i in 0..least(count, book::observed::CAPACITY) {
         label(block, r, b"obs");
         let o = read_obs(block, r);
         newline(block, r);
@@ -419,7 +388,7 @@ pub fn read_observed(block: &mut Block, r: &mut Reader) -> Observed {
 
 pub fn put_observed(out: &mut Block, at: &mut Place, list: Observed) {
     put_line(out, at, b"observed", word(list.count));
-    for i in 0..least(list.count, 16) {
+    for i in 0..least(list.count, book::observed::CAPACITY) {
         let o = list.slots[i];
         put_pair(out, at, b"obs", o.ready_ns, o.row);
     }
@@ -438,7 +407,7 @@ pub fn read_account(block: &mut Block, r: &mut Reader) -> AgentAccount {
     let count = size(number(block, r, b"account"));
     let mut list = AgentAccount::new();
     list.count = count;
-    for i in 0..least(count, 8) {
+    for i in 0..least(count, book::account::CAPACITY) {
         label(block, r, b"open");
         let o = read_open(block, r);
         newline(block, r);
@@ -449,7 +418,7 @@ pub fn read_account(block: &mut Block, r: &mut Reader) -> AgentAccount {
 
 pub fn put_account(out: &mut Block, at: &mut Place, list: AgentAccount) {
     put_line(out, at, b"account", word(list.count));
-    for i in 0..least(list.count, 8) {
+    for i in 0..least(list.count, book::account::CAPACITY) {
         let o = list.slots[i];
         put_pair(
             out,

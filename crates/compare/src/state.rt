@@ -157,14 +157,6 @@ fn read_halt(block: &mut Block, r: &mut Reader) -> HaltReason {
     }
 }
 
-fn halt_number(reason: HaltReason) -> u64 {
-    match reason {
-        HaltReason::LedgerOverflow => 5,
-        HaltReason::TimeOverflow => 6,
-        HaltReason::CounterOverflow => 7,
-    }
-}
-
 fn status_fields(block: &mut Block, r: &mut Reader) -> Status {
     let n = field(block, r);
     if n == 3 {
@@ -192,7 +184,7 @@ fn put_status(out: &mut Block, at: &mut Place, status: Status) {
         Status::Running => put_pair(out, at, b"status", 0, 0),
         Status::EndOfData => put_pair(out, at, b"status", 1, 0),
         Status::Truncated => put_pair(out, at, b"status", 2, 0),
-        Status::Halted(reason) => put_pair(out, at, b"status", 3, halt_number(reason)),
+        Status::Halted(reason) => put_pair(out, at, b"status", 3, reason.number()),
     }
 }
 

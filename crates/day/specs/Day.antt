@@ -1,32 +1,16 @@
 -- A day's run, turn by turn: "It advances and passes until Terminal."
 use Prim.Native.Nat.{ℕ}
-use mathlib.Core.Bool.{Bool, true, false}
+use mathlib.Core.Bool.{Bool, false}
 use mathlib.Core.List.{List}
-use lib.ListN.{length}
+use lib.Dec.{eqb}
 use Rattle.numbers.specs.Choice.{pick}
+use Rattle.book.specs.Entries.{isTerminalPhase}
 use Rattle.book.specs.declared.config.Config.{Config}
 use Rattle.book.specs.declared.state.KernelState.{KernelState}
-use Rattle.book.specs.declared.state.Phase.{Phase}
-use Rattle.book.specs.declared.state.Phase.the-variants.{BeforeMatch, ObsQueued, AwaitDecision, Terminal}
 use Rattle.rules.specs.Calls as calls
-use Rattle.rules.specs.Log.{written}
-use Rattle.kernel.specs.Calls.{answerTold}
-use Rattle.kernel.specs.declared.Answer.{Answer}
-use Rattle.kernel.specs.declared.Answer.the-variants as answer
 use Rattle.text.specs.Write.{Text, textAt, texted}
 use Rattle.lines.specs.Print.{callText, filledAfter, lastLine}
 use Rattle.day.specs.declared.Turned.{Turned}
-
-abbrev pub isTerminalPhase : Phase → Bool
-isTerminalPhase BeforeMatch = false
-isTerminalPhase ObsQueued = false
-isTerminalPhase AwaitDecision = false
-isTerminalPhase Terminal = true
-
--- a call ran: it was not refused
-abbrev pub hasRun : Answer → Bool
-hasRun answer.Ran = true
-hasRun (answer.Refused r) = false
 
 -- what a turn leaves: whether the run goes on, the state, the sum of the printed fill reports, the log, and the text of what it prints
 pub record Turn : Type 0 where
@@ -45,17 +29,19 @@ unfoldable pub passedOn : KernelState → ℕ → List ℕ → ℕ → List ℕ 
 passedOn s filled log n out =
     pick (isTerminalPhase (s .control .phase))
     (turnOf false s filled log n out)
-    (turnOf (hasRun (answerTold (calls.pass s .did))) (calls.pass s .state) filled log n out)
+    (turnOf (eqb (calls.refusalOf (calls.pass s .did)) 0) (calls.pass s .state) filled log n out)
 
 -- "It advances and passes": the events of the advance are what is printed, one line each
 unfoldable pub turned : Config → List ℕ → KernelState → ℕ → List ℕ → List ℕ → Turn
 turned c rows s filled log out =
-    passedOn (calls.advance c rows s .state) filled
-    (written log (calls.advance c rows s .events)) (length (calls.advance c rows s .events)) out
+    let a : calls.Result = calls.returned log (calls.advance c rows s) in
+    passedOn (a .state) filled (a .log) (a .count) out
 
 -- what a turn prints: the lines of the advance's events, of which its log holds the first
 unfoldable pub printedBy : Config → List ℕ → KernelState → List ℕ → List ℕ
-printedBy c rows s log = callText (written log (calls.advance c rows s .events)) (length (calls.advance c rows s .events))
+printedBy c rows s log =
+    let a : calls.Result = calls.returned log (calls.advance c rows s) in
+    callText (a .log) (a .count)
 
 -- what the code hands back, with the log and the bytes that it was lent
 abbrev pub actualTurn : Turned → List ℕ → List ℕ → Turn

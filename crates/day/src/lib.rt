@@ -1,8 +1,6 @@
 // A day's run between the reading of its text and the writing of its lines, on slices: nothing here opens a file.
 use book::config::Config;
 use book::state::KernelState;
-use book::state::Phase;
-use kernel::Answer;
 use kernel::advance;
 use kernel::pass;
 use lines::add_filled;
@@ -11,7 +9,7 @@ use lines::put_last;
 ghost use mathlib.Core.Path.{_≡_};
 ghost use lib.ListN.{length, take};
 ghost use Rattle.text.specs.Write.{textAt, texted};
-ghost use Rattle.day.specs.Day.{isTerminalPhase, hasRun, actualTurn, turned, printedBy, lastOf};
+ghost use Rattle.day.specs.Day.{actualTurn, turned, printedBy, lastOf};
 
 // What a turn leaves: whether the run goes on, the state, the filled sum so far, and how many bytes of text.
 pub struct Turned {
@@ -19,26 +17,6 @@ pub struct Turned {
     pub state: KernelState,
     pub filled: u64,
     pub length: usize,
-}
-
-fn is_terminal(phase: Phase) -> bool
-    ensures { λ r. ⌜ r ≡ isTerminalPhase phase ⌝ }
-{
-    match phase {
-        Phase::BeforeMatch => false,
-        Phase::ObsQueued => false,
-        Phase::AwaitDecision => false,
-        Phase::Terminal => true,
-    }
-}
-
-fn has_run(answer: Answer) -> bool
-    ensures { λ r. ⌜ r ≡ hasRun answer ⌝ }
-{
-    match answer {
-        Answer::Ran => true,
-        Answer::Refused(_) => false,
-    }
 }
 
 // One `advance`, the lines of what it raised and, unless that was the end, one `pass`. 65,536 bytes have room for every line of a log of 512 records. From step 0 a run has at most 2^64 turns: each pass raises `step`, and one at 2^64 - 1 is refused.
@@ -59,7 +37,7 @@ pub fn turn(
     let reached = a.state;
     let control = reached.control;
     let phase = control.phase;
-    if is_terminal(phase) {
+    if phase.is_terminal() {
         return Turned {
             more: false,
             state: reached,
@@ -69,9 +47,10 @@ pub fn turn(
     }
     let p = pass(reached);
     let answer = p.answer;
+    let refusal = answer.number();
     let next = p.state;
     Turned {
-        more: has_run(answer),
+        more: refusal == 0,
         state: next,
         filled: sum,
         length,

@@ -36,6 +36,7 @@ use Rattle.book.specs.declared.deliveries.MaybeDelivery.the-variants as deliver
 use Rattle.book.specs.declared.msgs.Msgs.{Msgs}
 use Rattle.book.specs.declared.observed.Observed.{Observed}
 use Rattle.book.specs.declared.state.AgentView.{AgentView}
+use Rattle.book.specs.declared.state.Control.{Control}
 use Rattle.book.specs.declared.state.HaltReason.the-variants.{LedgerOverflow, CounterOverflow}
 use Rattle.book.specs.declared.state.KernelEvent.{KernelEvent}
 use Rattle.book.specs.declared.state.KernelEvent.the-variants.{Delivered, EndOfData}
@@ -229,14 +230,14 @@ module _ (w w1 : List ℕ) (raised n : ℕ) (s : KernelState) (m : Msgs) (o : Ob
     unfolding closeData emptyQueues onWord expected appendEvents
     close-full-2 h2 = rw (← hm, ← ho, ← e, h, ← e2, h2, ← appended-append, ← em)
 
-    pub close-ends : (w2 : List ℕ) (k y : ℕ) → sum2 ≡ u64.Some y → logAt w2 k ≡ appendEvent (logAt w1 n) (EndOfData (s .msgs .count) (s .observed .count))
+    pub close-ends : (at : Control) → at ≡ controlStatus (controlPhase (s .control) phase.Terminal) status.EndOfData → (w2 : List ℕ) (k y : ℕ) → sum2 ≡ u64.Some y → logAt w2 k ≡ appendEvent (logAt w1 n) (EndOfData (s .msgs .count) (s .observed .count))
         → actual (record {
           outcome = Ended;
-          state = withControl (withCounters cleared (countersEofDroppedObs (countersEofDroppedMsgs (s .counters) x) y)) (controlStatus (controlPhase (s .control) phase.Terminal) status.EndOfData);
+          state = withControl (withCounters cleared (countersEofDroppedObs (countersEofDroppedMsgs (s .counters) x) y)) at;
           raised = k;
         }) w2 ≡ expected (logAt w raised) (closeData s)
     unfolding closeData emptyQueues onWord expected appendEvents
-    close-ends w2 k y h2 e3 = rw (← hm, ← ho, ← e, h, ← e2, h2, ← appended-append, ← em, ← e3)
+    close-ends at q w2 k y h2 e3 = rw (q, ← hm, ← ho, ← e, h, ← e2, h2, ← appended-append, ← em, ← e3)
 
 -- ---- end_of_data
 module _ (w w1 : List ℕ) (n : ℕ) (s : KernelState) (h : Emptied)

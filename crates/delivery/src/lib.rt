@@ -10,11 +10,9 @@ use book::deliveries::Deliveries;
 use book::deliveries::MaybeDelivery;
 use book::msgs::Msgs;
 use book::state::AgentView;
-use book::state::Control;
 use book::state::HaltReason;
 use book::state::KernelEvent;
 use book::state::KernelState;
-use book::state::Phase;
 use book::state::Status;
 use models::account::on_delivery;
 use models::gate::move_by;
@@ -300,16 +298,7 @@ fn close_data(log: &mut [u64], raised: u64, s: KernelState) -> Step
     };
     t.counters.eof_dropped_obs = eof_dropped_obs;
     let c = s.control;
-    let resume = c.resume;
-    let cur_row = c.cur_row;
-    let control = Control {
-        phase: Phase::Terminal,
-        resume,
-        cursor: c.cursor,
-        cur_row,
-        step: c.step,
-        status: Status::EndOfData,
-    };
+    let control = c.ended(Status::EndOfData);
     t.control = control;
     let m = emit(
         log,

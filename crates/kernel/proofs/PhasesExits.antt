@@ -28,7 +28,7 @@ use Rattle.book.specs.declared.state.HaltReason.the-variants.{LedgerOverflow, T
 use Rattle.book.specs.declared.state.KernelEvent.the-variants.{RowEnd}
 use Rattle.book.specs.declared.state.KernelState.{KernelState}
 use Rattle.book.specs.declared.state.Phase.the-variants.{BeforeMatch, ObsQueued, AwaitDecision, Terminal}
-use Rattle.models.specs.Calls.{ruleDelay}
+use Rattle.models.specs.Rules.{ruleDelay}
 use Rattle.models.specs.declared.latency.Arrival.{Arrival}
 use Rattle.rules.specs.Run as rules
 use Rattle.rules.specs.Report.{delay, delayed}

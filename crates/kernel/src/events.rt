@@ -10,7 +10,6 @@ use book::state::AgentView;
 use book::state::Control;
 use book::state::KernelEvent;
 use book::state::KernelState;
-use book::state::Phase;
 use book::state::Status;
 use delivery::deliver;
 use messages::apply_next_msg;
@@ -21,9 +20,9 @@ use reports::Step;
 use reports::log::emit;
 ghost use mathlib.Core.Path.{_≡_};
 ghost use Rattle.book.specs.declared.state.KernelState.{KernelState};
-ghost use Rattle.rules.specs.Events.{truncated, pausedAt, popObservation, dueBy, sooner, nextMsg, nextDelivery, nextObservation, nextOf, runEvents};
+ghost use Rattle.rules.specs.Events.{popObservation, dueBy, sooner, nextMsg, nextDelivery, nextObservation, nextOf, runEvents};
 ghost use Rattle.book.specs.With.{withMsgs, withDeliveries, withObserved};
-ghost use Rattle.reports.specs.Log.{logAt, expected, queue};
+ghost use Rattle.reports.specs.Log.{logAt, expected, actual};
 ghost use Rattle.kernel.specs.Events.{ruleClass, ruleNext, obsTakenIn, withObsTaken, withQueues};
 
 // Event classes, in their order at equal times.
@@ -48,39 +47,6 @@ pub struct ObsTaken {
     pub raised: u64,
 }
 
-// The run is over: its decisions are taken.
-pub fn truncate(c: Control) -> Control
-    ensures { λ r. ⌜ r ≡ truncated c ⌝ }
-{
-    let resume = c.resume;
-    let cur_row = c.cur_row;
-    Control {
-        phase: Phase::Terminal,
-        resume,
-        cursor: c.cursor,
-        cur_row,
-        step: c.step,
-        status: Status::Truncated,
-    }
-}
-
-// The run waits for a decision.
-fn pause(c: Control) -> Control
-    ensures { λ r. ⌜ r ≡ pausedAt c ⌝ }
-{
-    let phase = c.phase;
-    let cur_row = c.cur_row;
-    let status = c.status;
-    Control {
-        phase: Phase::AwaitDecision,
-        resume: phase,
-        cursor: c.cursor,
-        cur_row,
-        step: c.step,
-        status,
-    }
-}
-
 // The first observation pauses the run, or truncates it.
 pub fn pop_observation(
     log: &mut [u64],
@@ -91,7 +57,7 @@ pub fn pop_observation(
     observed: Observed,
     agent: AgentView,
 ) -> ObsTaken
-    ensures { λ r. ⌜ ((s : KernelState) → queue (obsTakenIn s «now_ns» r) (now (log .exit)) ≡ expected (logAt (now (log .entry)) raised) (popObservation cfg (withObsTaken s «now_ns» control observed agent))) ⌝ }
+    ensures { λ r. ⌜ ((s : KernelState) → actual (obsTakenIn s «now_ns» r) (now (log .exit)) ≡ expected (logAt (now (log .entry)) raised) (popObservation cfg (withObsTaken s «now_ns» control observed agent))) ⌝ }
 {
     let taken = observed.pop_front();
     let got = taken.got;
@@ -106,7 +72,7 @@ pub fn pop_observation(
     };
     let rest = taken.list;
     if cfg.s_max <= control.step {
-        let over = truncate(control);
+        let over = control.ended(Status::Truncated);
         return ObsTaken {
             outcome: Outcome::Left,
             control: over,
@@ -123,7 +89,7 @@ pub fn pop_observation(
             at_ns: now_ns,
         },
     );
-    let paused = pause(control);
+    let paused = control.paused();
     let pos = agent.pos;
     let view = AgentView {
         pos,
@@ -208,7 +174,7 @@ pub fn next_of(limit: u64, msgs: Msgs, deliveries: Deliveries, observed: Observe
 
 // Runs every event with a time at or below `until`. The walk is left from inside as soon as an observation pauses it or truncates.
 pub fn run_events(log: &mut [u64], raised: u64, cfg: Config, until: u64, state: KernelState) -> Step
-    ensures { λ r. ⌜ queue r (now (log .exit)) ≡ expected (logAt (now (log .entry)) raised) (runEvents cfg until state) ⌝ }
+    ensures { λ r. ⌜ actual r (now (log .exit)) ≡ expected (logAt (now (log .entry)) raised) (runEvents cfg until state) ⌝ }
 {
     let mut s = state;
     let mut n = raised;

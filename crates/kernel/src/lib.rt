@@ -15,17 +15,29 @@ use numbers::words::checked_add;
 use phases::run_phases;
 use reports::Outcome;
 use reports::log::emit;
+ghost use mathlib.Core.List.{[]};
 ghost use mathlib.Core.Path.{_≡_};
 ghost use Rattle.book.specs.With.{withControl};
 ghost use Rattle.book.specs.declared.state.KernelState.{KernelState};
-ghost use Rattle.rules.specs.Log.{written};
-ghost use Rattle.rules.specs.Calls.{advance, pass, halted, countsFit, isPaused, canResume};
-ghost use Rattle.kernel.specs.Calls.{advanceTold, passTold, passedIn};
+ghost use Rattle.rules.specs.Calls.{advance, pass, returned, halted, countsFit, isPaused, canResume};
+ghost use Rattle.kernel.specs.Calls.{answerNumber, actualAdvance, actualPass, passedIn};
 
 // Whether a call ran, or why it was refused.
 pub enum Answer {
     Ran,
     Refused(Refusal),
+}
+
+impl Answer {
+    // The paper's number of the refusal, 0 where the call ran.
+    pub fn number(self) -> u64
+        ensures { λ r. ⌜ r ≡ answerNumber self ⌝ }
+    {
+        match self {
+            Answer::Ran => 0,
+            Answer::Refused(refusal) => refusal.number(),
+        }
+    }
 }
 
 // What `advance` answers, with the count of all events raised.
@@ -66,8 +78,7 @@ fn counts_fit(s: KernelState) -> bool
 
 // Runs until the next decision or the end of the run.
 pub fn advance(cfg: Config, rows: &[u64], state: KernelState, log: &mut [u64]) -> Advanced
-    ensures { λ r. ⌜ r ≡ advanceTold (advance cfg (now (rows .entry)) state) ⌝ }
-    ensures { λ r. ⌜ now (log .exit) ≡ written (now (log .entry)) (advance cfg (now (rows .entry)) state .events) ⌝ }
+    ensures { λ r. ⌜ actualAdvance r (now (log .exit)) ≡ returned (now (log .entry)) (advance cfg (now (rows .entry)) state) ⌝ }
 {
     if rows.len() % 5 != 0 {
         return Advanced {
@@ -107,16 +118,7 @@ fn halt(s: KernelState, reason: HaltReason) -> KernelState
     ensures { λ r. ⌜ r ≡ halted reason s ⌝ }
 {
     let c = s.control;
-    let resume = c.resume;
-    let cur_row = c.cur_row;
-    let control = Control {
-        phase: Phase::Terminal,
-        resume,
-        cursor: c.cursor,
-        cur_row,
-        step: c.step,
-        status: Status::Halted(reason),
-    };
+    let control = c.ended(Status::Halted(reason));
     let mut t = s;
     t.control = control;
     t.counters.halts = 1;
@@ -153,7 +155,7 @@ pub struct PassTo {
 
 // A pass changes nothing but the control, so that the state is copied once.
 fn pass_control(fits: bool, c: Control) -> PassTo
-    ensures { λ r. ⌜ ((s : KernelState) → fits ≡ countsFit s → passedIn s r ≡ passTold (pass (withControl s c))) ⌝ }
+    ensures { λ r. ⌜ ((s : KernelState) → fits ≡ countsFit s → actualPass (passedIn s r) ≡ returned [] (pass (withControl s c))) ⌝ }
 {
     if !fits {
         return PassTo {
@@ -182,6 +184,7 @@ fn pass_control(fits: bool, c: Control) -> PassTo
             control: c,
         };
     };
+    // Made here and not by a method: through one the caller's state is copied once more.
     let cur_row = c.cur_row;
     let status = c.status;
     let control = Control {
@@ -200,7 +203,7 @@ fn pass_control(fits: bool, c: Control) -> PassTo
 
 // No action at a pause.
 pub fn pass(state: KernelState) -> Passed
-    ensures { λ r. ⌜ r ≡ passTold (pass state) ⌝ }
+    ensures { λ r. ⌜ actualPass r ≡ returned [] (pass state) ⌝ }
 {
     let fits = counts_fit(state);
     let c = state.control;

@@ -4,7 +4,6 @@ use super::events::Next;
 use super::events::next_of;
 use super::events::pop_observation;
 use super::events::run_events;
-use super::events::truncate;
 use book::ObsEntry;
 use book::config::Config;
 use book::config::KernelTick;
@@ -16,6 +15,7 @@ use book::state::HaltReason;
 use book::state::KernelEvent;
 use book::state::KernelState;
 use book::state::Phase;
+use book::state::Status;
 use delivery::end_of_data;
 use matching::Venue;
 use matching::busy;
@@ -32,11 +32,11 @@ use reports::log::emit;
 ghost use mathlib.Core.Path.{_≡_};
 ghost use mathlib.Core.List.{List};
 ghost use Prim.Native.Nat.{ℕ};
-ghost use Rattle.book.specs.With.{controlPhase, withControl};
+ghost use Rattle.book.specs.With.{withControl};
 ghost use Rattle.book.specs.declared.state.KernelState.{KernelState};
 ghost use Rattle.book.specs.declared.config.Config.{Config};
-ghost use Rattle.rules.specs.Phases.{rowAt, queueObservation, toRow, nextRow, phaseTurn, phases};
-ghost use Rattle.reports.specs.Log.{logAt, expected, queue};
+ghost use Rattle.rules.specs.Phases.{rowAt, queueObservation, nextRow, phaseTurn, phases};
+ghost use Rattle.reports.specs.Log.{logAt, expected, actual};
 ghost use Rattle.kernel.specs.Phases.{ruleTick, obsStepIn, withObs, workOn, turnBy, onwardTo};
 
 // What queueing an observation changes of the state.
@@ -67,22 +67,6 @@ fn row_at(rows: &[u64], index: u64) -> MaybeTick
     })
 }
 
-fn in_phase(c: Control, phase: Phase) -> Control
-    ensures { λ r. ⌜ r ≡ controlPhase c phase ⌝ }
-{
-    let resume = c.resume;
-    let cur_row = c.cur_row;
-    let status = c.status;
-    Control {
-        phase,
-        resume,
-        cursor: c.cursor,
-        cur_row,
-        step: c.step,
-        status,
-    }
-}
-
 // The row's observation is queued, never before an earlier one.
 fn queue_observation(
     cfg: Config,
@@ -93,7 +77,7 @@ fn queue_observation(
     observed: Observed,
     control: Control,
 ) -> ObsStep
-    ensures { λ r. ⌜ ((s : KernelState) (n : ℕ) (w : List ℕ) → queue (obsStepIn s n r) w ≡ expected (logAt w n) (queueObservation cfg index row (withObs s «rng_latency» clock observed control))) ⌝ }
+    ensures { λ r. ⌜ ((s : KernelState) (n : ℕ) (w : List ℕ) → actual (obsStepIn s n r) w ≡ expected (logAt w n) (queueObservation cfg index row (withObs s «rng_latency» clock observed control))) ⌝ }
 {
     let arrival = delayed(cfg, rng_latency, row.ts_ns, cfg.observation_q);
     let time = arrival.time;
@@ -124,29 +108,13 @@ fn queue_observation(
         };
     }
     let list = put.list;
-    let queued = in_phase(control, Phase::ObsQueued);
+    let queued = control.in_phase(Phase::ObsQueued);
     ObsStep {
         outcome: Outcome::Ran,
         rng_latency: arrival.rng,
         clock: next,
         observed: list,
         control: queued,
-    }
-}
-
-// The cursor's row becomes the current one.
-fn to_row(c: Control, next: u64) -> Control
-    ensures { λ r. ⌜ r ≡ toRow c next ⌝ }
-{
-    let resume = c.resume;
-    let status = c.status;
-    Control {
-        phase: Phase::BeforeMatch,
-        resume,
-        cursor: next,
-        cur_row: MaybeU64::Some(c.cursor),
-        step: c.step,
-        status,
     }
 }
 
@@ -169,10 +137,10 @@ fn work_on(work: Work, rows: &[u64], index: u64) -> Job
     ensures { λ r. ⌜ r ≡ workOn work index (rowAt (now (rows .entry)) index) ⌝ }
 {
     let tick = row_at(rows, index);
-    let MaybeTick::Some(row) = tick else {
+    let MaybeTick::Some(here) = tick else {
         return Job::Fail;
     };
-    Job::Row(work, index, row)
+    Job::Row(work, index, here)
 }
 
 // What the control asks of a turn.
@@ -215,18 +183,18 @@ fn next_row(cfg: Config, rows: &[u64], c: Control) -> Onward
         return Onward::End;
     }
     if cfg.s_max <= c.step {
-        let over = truncate(c);
+        let over = c.ended(Status::Truncated);
         return Onward::To(over);
     }
     let next = cursor + 1;
-    let at = to_row(c, next);
+    let at = c.at_row(next);
     Onward::To(at)
 }
 
 // The phases, until a pause, a halt or the end of the run leaves them.
 // The state stands in one local, and a step that runs on every row takes the parts that it changes. The walk takes the whole state, where a message or a delivery is due.
 pub fn run_phases(log: &mut [u64], cfg: Config, rows: &[u64], state: KernelState) -> Step
-    ensures { λ r. ⌜ queue r (now (log .exit)) ≡ expected (logAt (now (log .entry)) 0) (phases cfg (now (rows .entry)) state) ⌝ }
+    ensures { λ r. ⌜ actual r (now (log .exit)) ≡ expected (logAt (now (log .entry)) 0) (phases cfg (now (rows .entry)) state) ⌝ }
 {
     let mut s = state;
     let mut n = 0;
@@ -332,19 +300,19 @@ pub fn run_phases(log: &mut [u64], cfg: Config, rows: &[u64], state: KernelState
                             };
                             let a = match_orders(log, n, cfg, row, venue, orders, due);
                             let v = a.venue;
-                            let clock2 = v.clock;
-                            let seqs2 = v.seqs;
-                            let gate2 = v.gate;
-                            let counters2 = v.counters;
-                            let orders2 = a.orders;
-                            let deliveries2 = a.deliveries;
+                            let matched_clock = v.clock;
+                            let matched_seqs = v.seqs;
+                            let matched_gate = v.gate;
+                            let matched_counters = v.counters;
+                            let matched_orders = a.orders;
+                            let matched_deliveries = a.deliveries;
                             s.rng_latency = v.rng_latency;
-                            s.clock = clock2;
-                            s.seqs = seqs2;
-                            s.gate = gate2;
-                            s.counters = counters2;
-                            s.orders = orders2;
-                            s.deliveries = deliveries2;
+                            s.clock = matched_clock;
+                            s.seqs = matched_seqs;
+                            s.gate = matched_gate;
+                            s.counters = matched_counters;
+                            s.orders = matched_orders;
+                            s.deliveries = matched_deliveries;
                             n = a.raised;
                             let o = a.outcome;
                             let Outcome::Ran = o else {
@@ -352,13 +320,13 @@ pub fn run_phases(log: &mut [u64], cfg: Config, rows: &[u64], state: KernelState
                             };
                             let held = s.msgs;
                             let awaiting = s.awaiting;
-                            let w = sweep(orders2, held, awaiting);
-                            let orders3 = w.orders;
-                            let msgs3 = w.msgs;
-                            let awaiting3 = w.awaiting;
-                            s.orders = orders3;
-                            s.msgs = msgs3;
-                            s.awaiting = awaiting3;
+                            let w = sweep(matched_orders, held, awaiting);
+                            let swept_orders = w.orders;
+                            let swept_msgs = w.msgs;
+                            let swept_awaiting = w.awaiting;
+                            s.orders = swept_orders;
+                            s.msgs = swept_msgs;
+                            s.awaiting = swept_awaiting;
                             let p = w.outcome;
                             let Outcome::Ran = p else {
                                 break 'phases p;
@@ -368,13 +336,13 @@ pub fn run_phases(log: &mut [u64], cfg: Config, rows: &[u64], state: KernelState
                         let queue = s.observed;
                         let c = s.control;
                         let q = queue_observation(cfg, index, row, s.rng_latency, clock, queue, c);
-                        let clock4 = q.clock;
-                        let observed4 = q.observed;
-                        let control4 = q.control;
+                        let queued_clock = q.clock;
+                        let queued_observed = q.observed;
+                        let queued_control = q.control;
                         s.rng_latency = q.rng_latency;
-                        s.clock = clock4;
-                        s.observed = observed4;
-                        s.control = control4;
+                        s.clock = queued_clock;
+                        s.observed = queued_observed;
+                        s.control = queued_control;
                         let o = q.outcome;
                         let Outcome::Ran = o else {
                             break 'phases o;

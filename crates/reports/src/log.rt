@@ -1,66 +1,12 @@
 // The log writer.
-use book::ExecKind;
 use book::FillRec;
-use book::Origin;
 use book::ReportRec;
-use book::Side;
-use book::state::HaltReason;
+use book::flag_number;
 use book::state::KernelEvent;
 ghost use mathlib.Core.Path.{_≡_};
 ghost use mathlib.Core.List.{[], _∷_};
-ghost use Rattle.book.specs.Numbers.{sideNumber, execNumber, originNumber, flagNumber, haltNumber};
 ghost use Rattle.rules.specs.Log.{reportWords, fillWords, shortWords, eventWords, written};
 ghost use Rattle.reports.specs.Log.{logAt, appendEvent};
-
-fn side_word(side: Side) -> u64
-    ensures { λ r. ⌜ r ≡ sideNumber side ⌝ }
-{
-    match side {
-        Side::Buy => 0,
-        Side::Sell => 1,
-    }
-}
-
-fn exec_word(kind: ExecKind) -> u64
-    ensures { λ r. ⌜ r ≡ execNumber kind ⌝ }
-{
-    match kind {
-        ExecKind::Accepted => 0,
-        ExecKind::Rejected => 1,
-        ExecKind::Canceled => 2,
-        ExecKind::CancelRejected => 3,
-        ExecKind::PartialFill => 4,
-        ExecKind::Fill => 5,
-    }
-}
-
-fn origin_word(origin: Origin) -> u64
-    ensures { λ r. ⌜ r ≡ originNumber origin ⌝ }
-{
-    match origin {
-        Origin::Local => 0,
-        Origin::Venue => 1,
-    }
-}
-
-fn flag_word(flag: bool) -> u64
-    ensures { λ r. ⌜ r ≡ flagNumber flag ⌝ }
-{
-    if flag {
-        return 1;
-    }
-    0
-}
-
-fn halt_word(reason: HaltReason) -> u64
-    ensures { λ r. ⌜ r ≡ haltNumber reason ⌝ }
-{
-    match reason {
-        HaltReason::LedgerOverflow => 5,
-        HaltReason::TimeOverflow => 6,
-        HaltReason::CounterOverflow => 7,
-    }
-}
 
 fn report_words(kind: u64, r: ReportRec) -> [u64; 12]
     ensures { λ w. ⌜ w ≡ reportWords kind r ⌝ }
@@ -68,10 +14,10 @@ fn report_words(kind: u64, r: ReportRec) -> [u64; 12]
     let side = r.side;
     let exec = r.kind;
     let origin = r.origin;
-    let s = side_word(side);
-    let e = exec_word(exec);
-    let o = origin_word(origin);
-    let p = flag_word(r.cancel_pending);
+    let s = side.number();
+    let e = exec.number();
+    let o = origin.number();
+    let p = flag_number(r.cancel_pending);
     [
         kind,
         r.ts_ns,
@@ -92,7 +38,7 @@ fn fill_words(f: FillRec) -> [u64; 12]
     ensures { λ w. ⌜ w ≡ fillWords f ⌝ }
 {
     let side = f.side;
-    let s = side_word(side);
+    let s = side.number();
     [
         2,
         f.ts_ns,
@@ -128,8 +74,12 @@ fn event_words(e: KernelEvent) -> [u64; 12]
             dropped_msgs,
             dropped_obs,
         } => short_words(6, dropped_msgs, dropped_obs),
-        KernelEvent::Halted(reason) => short_words(7, halt_word(reason), 0),
-        KernelEvent::DroppedMsg { order_id, cancel } => short_words(8, order_id, flag_word(cancel)),
+        KernelEvent::Halted(reason) => short_words(7, reason.number(), 0),
+        KernelEvent::DroppedMsg { order_id, cancel } => short_words(
+            8,
+            order_id,
+            flag_number(cancel),
+        ),
         KernelEvent::Expired { order_id, at_ns } => short_words(9, order_id, at_ns),
         KernelEvent::DroppedExpiry { order_id } => short_words(10, order_id, 0),
     }

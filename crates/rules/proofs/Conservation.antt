@@ -18,11 +18,10 @@ use Rattle.book.specs.declared.VenueOrder.{VenueOrder}
 use Rattle.book.specs.declared.config.Config.{Config}
 use Rattle.book.specs.declared.state.KernelState.{KernelState}
 use Rattle.book.specs.declared.state.Phase.the-variants.{Terminal}
-use Rattle.book.specs.declared.state.Refusal.{Refusal}
 use Rattle.rules.specs.Run.{Outcome, Run, ran, left, halt, ended, ranTo, iter}
 use Rattle.rules.specs.Phases.{phaseTurn, phases}
 use Rattle.rules.specs.Calls.{Did, refused, stays, halts, ends, Answer, refuse, answerOn, answer, countsFit, advance, isPaused, canResume, passed, pass}
-use Rattle.rules.specs.Conservation.{recordedOn, undelivered, Each, Conserved, Closed, Call, advances, passes, result, AfterEach, After, Claim}
+use Rattle.rules.specs.Conservation.{recordedOn, undelivered, Each, Conserved, Closed, Call, advances, passes, answerTo, result, AfterEach, After, Claim}
 use Rattle.rules.proofs.Cases.{word-case}
 use Rattle.rules.proofs.Positions.{balanced-same, balanced-apart, balanced-joined}
 use Rattle.rules.proofs.Kept.{KeptAt}
@@ -96,7 +95,7 @@ answer-well r h = go (r .outcome) (h .holds)
     go (halt h) g = tt
     go (ended ms) g = g
 
-refuse-well : (r : Refusal) (s : KernelState) → Conserved s → Well (refuse r s)
+refuse-well : (r : ℕ) (s : KernelState) → Conserved s → Well (refuse r s)
 unfolding Well WellBy
 refuse-well r s h = h
 
@@ -122,7 +121,7 @@ pass-well s h =
     (λ _. refuse-well _ s h))
     (λ _. refuse-well _ s h)
 
-call-well : (c : Call) (s : KernelState) → Conserved s → WellBy (result c s .did) (result c s .state)
+call-well : (c : Call) (s : KernelState) → Conserved s → WellBy (answerTo c s .did) (result c s .state)
 unfolding Well
 call-well (advances c rows log) s h = advance-well c rows s h
 call-well passes s h = pass-well s h
@@ -164,4 +163,4 @@ after-call cs (ends dropped) t h ih = (h .0, closed-on dropped cs t (h .0) (h .1
 pub conservation : (s : KernelState) → Conserved s → (calls : List Call) → Claim calls s
 unfolding Claim
 conservation s h [] = tt
-conservation s h (c ∷ cs) = after-call cs (result c s .did) (result c s .state) (call-well c s h) (λ g. conservation (result c s .state) g cs)
+conservation s h (c ∷ cs) = after-call cs (answerTo c s .did) (result c s .state) (call-well c s h) (λ g. conservation (result c s .state) g cs)

@@ -16,16 +16,14 @@ use Rattle.book.specs.declared.state.KernelEvent.the-variants.{Halted}
 use Rattle.book.specs.declared.state.KernelState.{KernelState}
 use Rattle.book.specs.declared.state.Phase.{Phase}
 use Rattle.book.specs.declared.state.Phase.the-variants.{BeforeMatch, ObsQueued, AwaitDecision, Terminal}
-use Rattle.book.specs.declared.state.Refusal.{Refusal}
-use Rattle.book.specs.declared.state.Refusal.the-variants.{RowWords, ListCount, NotPaused, NoResume, StepLimit}
 use Rattle.book.specs.declared.state.Status.the-variants as status
 use Rattle.rules.specs.Run.{Outcome, Run, ran, left, halt, ended}
 use Rattle.rules.specs.Log.{written}
 use Rattle.rules.specs.Phases.{phases}
 
--- what a call did: it is refused, or it ran and neither halted nor ended the data, or it took one of these two steps itself
+-- what a call did: it is refused, with the number of 'Refused or halted', or it ran and neither halted nor ended the data, or it took one of these two steps itself
 pub data Did : Type 0 where
-  refused : Refusal → Did
+  refused : ℕ → Did
   stays : Did
   halts : HaltReason → Did
   ends : List VenueMsg → Did
@@ -37,8 +35,8 @@ pub record Answer : Type 0 where
   pub events : List KernelEvent
 
 -- "Refusals (101 up) return the state unchanged, the log untouched, count 0."
-abbrev pub refuse : Refusal → KernelState → Answer
-refuse r s = record { did = refused r; state = s; events = [] }
+abbrev pub refuse : ℕ → KernelState → Answer
+refuse n s = record { did = refused n; state = s; events = [] }
 
 -- "Halts set status, Terminal, `halts` to 1, write event 7 and keep all done before."
 abbrev pub halted : HaltReason → KernelState → KernelState
@@ -65,8 +63,8 @@ countsFit s =
 unfoldable pub advance : Config → List ℕ → KernelState → Answer
 advance c rows s =
     pick (eqb (length rows % 5) 0)
-    (pick (countsFit s) (answer (phases c rows s)) (refuse ListCount s))
-    (refuse RowWords s)
+    (pick (countsFit s) (answer (phases c rows s)) (refuse 102 s))
+    (refuse 101 s)
 
 -- "103: not AwaitDecision"
 abbrev pub isPaused : Phase → Bool
@@ -92,18 +90,25 @@ pass s =
     pick (countsFit s)
     (pick (isPaused (s .control .phase))
     (pick (canResume (s .control .resume))
-    (onWord (fitting (s .control .step + 1)) (λ n. passed n s) (refuse StepLimit s))
-    (refuse NoResume s))
-    (refuse NotPaused s))
-    (refuse ListCount s)
+    (onWord (fitting (s .control .step + 1)) (λ n. passed n s) (refuse 105 s))
+    (refuse 104 s))
+    (refuse 103 s))
+    (refuse 102 s)
 
--- what the caller is handed: with a log of its own, "the answer counts all events raised"
+-- the refusal's number, or 0 where the call ran: a halt and the end of data are in the state and the log, and are no refusals
+abbrev pub refusalOf : Did → ℕ
+refusalOf (refused n) = n
+refusalOf stays = 0
+refusalOf (halts h) = 0
+refusalOf (ends ms) = 0
+
+-- what the caller is handed: the answer as a number, the state, the log that it lent, and "the answer counts all events raised"
 pub record Result : Type 0 where
-  pub did : Did
+  pub answer : ℕ
   pub state : KernelState
   pub log : List ℕ
   pub count : ℕ
 
--- an answer beside the log that the caller lent
+-- what a call returns to a caller who lent this log
 abbrev pub returned : List ℕ → Answer → Result
-returned log a = record { did = a .did; state = a .state; log = written log (a .events); count = length (a .events) }
+returned log a = record { answer = refusalOf (a .did); state = a .state; log = written log (a .events); count = length (a .events) }

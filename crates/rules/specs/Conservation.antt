@@ -19,7 +19,7 @@ use Rattle.book.specs.declared.VenueOrder.{VenueOrder}
 use Rattle.book.specs.declared.config.Config.{Config}
 use Rattle.book.specs.declared.state.KernelState.{KernelState}
 use Rattle.rules.specs.Messages.{liveLots}
-use Rattle.rules.specs.Calls.{Did, refused, stays, halts, ends, advance, pass, Result, returned}
+use Rattle.rules.specs.Calls.{Did, refused, stays, halts, ends, Answer, advance, pass, Result, returned}
 
 -- ---- "Sums are whole numbers over the slots below the counts"
 -- "booked is being in orders"
@@ -88,10 +88,19 @@ pub data Call : Type 0 where
   advances : Config → List ℕ → List ℕ → Call
   passes : Call
 
--- what a call gives, as the contracts of `advance` and `pass` say it
+-- what the rules give for a call
+abbrev pub answerTo : Call → KernelState → Answer
+answerTo (advances c rows log) s = advance c rows s
+answerTo passes s = pass s
+
+-- the log that it is lent
+abbrev pub lentTo : Call → List ℕ
+lentTo (advances c rows log) = log
+lentTo passes = []
+
+-- what it returns, as the contracts of `advance` and `pass` say it
 abbrev pub result : Call → KernelState → Result
-result (advances c rows log) s = returned log (advance c rows s)
-result passes s = returned [] (pass s)
+result c s = returned (lentTo c) (answerTo c s)
 
 -- P after each of these calls
 unfoldable pub AfterEach : (KernelState → Type 0) → List Call → KernelState → Type 0
@@ -110,4 +119,4 @@ After (ends dropped) s cs Rest = Closed dropped s × AfterEach (Closed dropped) 
 -- the claim about a list of calls from s: "all three hold after each call before the first that halts or reaches end of data. .."
 unfoldable pub Claim : List Call → KernelState → Type 0
 Claim [] s = Unit {0}
-Claim (c ∷ cs) s = After (result c s .did) (result c s .state) cs (Claim cs (result c s .state))
+Claim (c ∷ cs) s = After (answerTo c s .did) (result c s .state) cs (Claim cs (result c s .state))

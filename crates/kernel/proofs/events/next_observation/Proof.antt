@@ -1,6 +1,6 @@
 -- `kernel::events::next_observation` meets its contract. Assumes nothing.
 use mathlib.Core.Path.{sym, ap, _∙_}
-use Rattle.book.specs.Rows.{obsStepIn}
+use Rattle.book.specs.Rows.{obsIn}
 use Rattle.rules.specs.Events.{nextObservation}
 use Rattle.kernel.proofs.EventsExits.{front-none, front-some}
 use borrow.Author.Needs.{needs}
@@ -14,6 +14,6 @@ next-observation-spec =
     (λ c κs. search needs)
     (λ c. search needs)
     (λ c. search needs)
-    (λ c. λ s. front-none _ _ (sym (c .before .before .get .ensures) ∙ ap obsStepIn (c .enum-told .given .1)))
+    (λ c. λ s. front-none _ _ (sym (c .before .before .get .ensures) ∙ ap obsIn (c .enum-told .given .1)))
     (λ c κs. search needs)
-    (λ c. λ s. front-some _ _ _ (c .due-by .result) (sym (c .before .before .before .before .get .ensures) ∙ ap obsStepIn (c .before .before .first .given .1)) (c .due-by .ensures)))
+    (λ c. λ s. front-some _ _ _ (c .due-by .result) (sym (c .before .before .before .before .get .ensures) ∙ ap obsIn (c .before .before .first .given .1)) (c .due-by .ensures)))

@@ -9,7 +9,7 @@ next-row-spec =
     tie.close (tie.spec
     (λ c. next-end _ _ (c .before .before .args .c) (c .if1 .taken))
     (λ c κs. search needs)
-    (λ c. next-over _ _ (c .before .before .before .before .before .before .args .c) (c .before .before .before .before .if1 .left) _ (c .before .if2 .taken) (c .truncate .ensures))
+    (λ c. next-over _ _ (c .before .before .before .before .before .before .args .c) (c .before .before .before .before .if1 .left) _ (c .before .if2 .taken) (c .ended .ensures))
     (λ c. search needs)
     (λ c κs. search needs)
-    (λ c. next-on _ _ (c .before .before .before .before .before .before .args .c) (c .before .before .before .before .if1 .left) _ (c .before .if2 .left) (c .to-row .ensures)))
+    (λ c. next-on _ _ (c .before .before .before .before .before .before .args .c) (c .before .before .before .before .if1 .left) _ (c .before .if2 .left) (c .at-row .ensures)))

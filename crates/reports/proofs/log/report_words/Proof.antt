@@ -6,4 +6,4 @@ use Rattle.reports.proofs.log.report_words.Tie as tie
 pub report-words-spec : {M : Type 1} → statement M
 report-words-spec =
     tie.close (tie.spec (λ c κs. search needs) (λ c κs. search needs) (λ c κs. search needs) (λ c κs. search needs)
-    (λ c. let b = c .before in simp (b .before .before .side-word .ensures, b .before .exec-word .ensures, b .origin-word .ensures, c .flag-word .ensures)))
+    (λ c. let b = c .before in simp (b .before .before .number .ensures, b .before .number2 .ensures, b .number3 .ensures, c .flag-number .ensures)))

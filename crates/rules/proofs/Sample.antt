@@ -74,8 +74,9 @@ start = record {
 abbrev reportOf : ℕ → ℕ → ExecKind → ℕ → ReportRec
 reportOf ts seq k lots = record { «ts_ns» = ts; seq = seq; «order_id» = 1; side = Buy; kind = k; origin = Venue; «cancel_pending» = false; price = 101; qty = 5; last = lots; cum = lots }
 
--- advance, pass, advance
-third : Answer
+-- advance, pass, advance. To unfold it is to unfold the rules
+unfoldable pub third : Answer
+unfolding pick fits fitting onWord ranged raisedBy loweredBy onMoved onSome live insertAt removeAt before foundIn placed without putAt takeAt entryAt storeAt emptied total onSide andThen putting taking iter nextState output draw stamp delayedTime delay delayed pushDelivery reported queueDelivery released release await awaitMarked book schedule removeExpiry scheduleExpiry accept reject activate activation cancelBooked cancelPending cancelAwaiting cancel expireBooked expire applyNextMsg matches ahead lotsOf queueFillLots gateFilled filledBy fillReport fillCounted fillEvent fillAt fillsOf fillsAt matchAt matchFrom leave terminalAt sweepFrom sweep gateMarked matchRow countFill countReject onDelivery deliverNext deliverAll emptyQueues closeData endOfData popObservation dueBy nextMsg nextDelivery nextObservation sooner nextOf eventTurn weight runEvents rowAt queueObservation matchPhase beforeMatch settleRow settle nextRow obsQueued phaseTurn turns phases answer countsFit advance pass
 third = advance config rows (pass (advance config rows start .state) .state)
 
 events : List KernelEvent
@@ -87,7 +88,7 @@ sample :
     ∷ Report (reportOf 20 1 exec.Fill 5) ∷ Observed 0 20 ∷ RowEnd 0 20 ∷ Delivered (reportOf 10 0 exec.Accepted 0) ∷ Delivered (reportOf 20 1 exec.Fill 5)
     ∷ EndOfData 0 0 ∷ [])
     × (third .did ≡ ends [])
-unfolding third events pick fits fitting onWord ranged raisedBy loweredBy onMoved onSome live insertAt removeAt before foundIn placed without putAt takeAt entryAt storeAt emptied total onSide andThen putting taking iter nextState output draw stamp delayedTime delay delayed pushDelivery reported queueDelivery released release await awaitMarked book schedule removeExpiry scheduleExpiry accept reject activate activation cancelBooked cancelPending cancelAwaiting cancel expireBooked expire applyNextMsg matches ahead lotsOf queueFillLots gateFilled filledBy fillReport fillCounted fillEvent fillAt fillsOf fillsAt matchAt matchFrom leave terminalAt sweepFrom sweep gateMarked matchRow countFill countReject onDelivery deliverNext deliverAll emptyQueues closeData endOfData popObservation dueBy nextMsg nextDelivery nextObservation sooner nextOf eventTurn weight runEvents rowAt queueObservation matchPhase beforeMatch settleRow settle nextRow obsQueued phaseTurn turns phases answer countsFit advance pass
+unfolding third events
 sample = (refl, refl)
 
 -- ---- the start has the three properties

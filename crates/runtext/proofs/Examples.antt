@@ -1,9 +1,9 @@
 -- Document 01's sample run file read whole, and run files at the limits of the grammar. Assumes nothing.
 use Prim.Native.Nat.{ℕ, zero, suc, _<_}
-use Prim.Native.String.{String, _++_}
+use Prim.Native.String.{String, _++_ as _then_}
 use mathlib.Core.Bool.{Bool, true, false}
 use mathlib.Core.Path.{_≡_, refl}
-use mathlib.Core.List.{List, [], _∷_, map}
+use mathlib.Core.List.{List, [], _∷_, _++_, map}
 use lib.ListN.{length, replicate, take}
 use borrow.Author.Tests.{lt-leb}
 use Rattle.numbers.specs.Choice.{pick}
@@ -23,21 +23,23 @@ use Rattle.runtext.specs.Lines.{sideOf, onSideField, configLine, nowLine
 use Rattle.runtext.specs.Read.{blankReading, takeConfig, takeFill, isMessageDue, reserved, onReserved, onPut, takeOrder, marked, markedIn, takeCancel, takeRow, takeLine, seeded, startState, scriptOf, readWith, closing, readParts, Read, readText}
 use Rattle.runtext.specs.declared.read.Reading.{Reading}
 
--- with room for the words of one row
-abbrev read : String → Read
-read s = readText (bytes s) (replicate 5 0)
+-- with room for the words of 512 rows, as `replay` lends it
+abbrev pub read : String → Read
+read s = readText (bytes s) (replicate 2560 0)
 
-badOf : String → MaybeU64
+-- to unfold it is to unfold the reading
+unfoldable pub badOf : String → MaybeU64
+unfolding pick fits fitting onWord live insertAt before placed putAt onSide parted same areDigits value number sideOf onSideField configLine nowLine queueLine fillModeLine orderLine cancelLine rowLine lineOf takeConfig takeFill isMessageDue reserved onReserved onPut takeOrder marked markedIn takeCancel takeRow takeLine seeded startState scriptOf closing readParts readText
 badOf s = read s .script .bad
 
 -- n times the same line
 times : ℕ → String → String
 times zero s = ""
-times (suc n) s = s ++ times n s
+times (suc n) s = s then times n s
 
 -- a file with these lines behind the first two
 from : String → String
-from s = "c 1 1 1 1 0 1\nf now\n" ++ s
+from s = "c 1 1 1 1 0 1\nf now\n" then s
 
 isMarked : MsgKind → Bool
 isMarked (Cancel i) = false
@@ -59,11 +61,14 @@ full n = record { cfg = blankReading .cfg; seed = 0; lots = blankReading .lots; 
 tick : KernelTick
 tick = record { «ts_ns» = 1; bid = 1; «bid_lots» = 1; ask = 1; «ask_lots» = 1 }
 
+-- document 01's sample: the configuration, the state and the row with which `rules` runs it
+pub sample : read "c 1000 0 1 0 7 9\nf now\no 10 1 B 101 5 0\nr 20 99 4 101 6\n" ≡ readWith (record { bad = None; cfg = config; state = start; rows = 1 }) (rows ++ replicate 2555 0)
+unfolding badOf
+sample = refl
+
 examples :
-    -- document 01's sample: the configuration, the state and the row with which `rules` runs it
-    (read "c 1000 0 1 0 7 9\nf now\no 10 1 B 101 5 0\nr 20 99 4 101 6\n" ≡ readWith (record { bad = None; cfg = config; state = start; rows = 1 }) rows)
     -- the first two lines: absent, not ended, of too few fields, with a space too many, in another order
-    × (map badOf ("" ∷ "c 1 1 1 1 1 1\n" ∷ "c 1 1 1 1 1 1\nf now" ∷ "c 1 1 1 1 1\nf now\n" ∷ "c 1 1 1 1 1  1\nf now\n" ∷ "f now\nc 1 1 1 1 1 1\n" ∷ "c 1 1 1 1 1 1\nf queue 1 2\n" ∷ [])
+    (map badOf ("" ∷ "c 1 1 1 1 1 1\n" ∷ "c 1 1 1 1 1 1\nf now" ∷ "c 1 1 1 1 1\nf now\n" ∷ "c 1 1 1 1 1  1\nf now\n" ∷ "f now\nc 1 1 1 1 1 1\n" ∷ "c 1 1 1 1 1 1\nf queue 1 2\n" ∷ [])
     ≡ Some 1 ∷ Some 2 ∷ Some 2 ∷ Some 1 ∷ Some 1 ∷ Some 1 ∷ Some 2 ∷ [])
     -- no row at all; an empty line; a row not ended; an order behind a row; no side
     × (map (λ s. badOf (from s)) ("" ∷ "\n" ∷ "r 1 1 1 1 1" ∷ "r 1 1 1 1 1\no 1 1 B 1 1 0\n" ∷ "o 1 1 b 1 1 0\n" ∷ []) ≡ None ∷ Some 3 ∷ Some 3 ∷ Some 4 ∷ Some 3 ∷ [])
@@ -77,10 +82,10 @@ examples :
     ≡ record { eff = 3; seq = 2; mark = false } ∷ record { eff = 5; seq = 1; mark = false } ∷ record { eff = 9; seq = 0; mark = true } ∷ [])
     -- the seed 0
     × (read (from "") .script .state .«rng_latency» ≡ 0x9E3779B97F4A7C15)
-unfolding badOf times from isMarked brief full tick pick fits fitting onWord live insertAt before placed putAt onSide parted same areDigits value number sideOf onSideField configLine nowLine queueLine fillModeLine orderLine cancelLine rowLine lineOf takeConfig takeFill isMessageDue reserved onReserved onPut takeOrder marked markedIn takeCancel takeRow takeLine seeded startState scriptOf closing readParts readText
-examples = (refl, refl, refl, refl, refl, refl, refl)
+unfolding badOf times from isMarked brief full tick
+examples = (refl, refl, refl, refl, refl, refl)
 
 -- "at most 65,536 bytes"; "file too long ..: 0"
-too-long : (text words : List ℕ) → 65536 < length text → readText text words .script .bad ≡ Some 0
+pub too-long : (text words : List ℕ) → 65536 < length text → readText text words .script .bad ≡ Some 0
 unfolding readText scriptOf pick
 too-long text words h = rw (lt-leb (length text) 65536 h)

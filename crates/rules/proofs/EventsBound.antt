@@ -14,6 +14,7 @@ use Rattle.book.specs.declared.MsgKind.{MsgKind}
 use Rattle.book.specs.declared.MsgKind.the-variants.{Cancel, Activate, Expire}
 use Rattle.book.specs.declared.VenueMsg.{VenueMsg}
 use Rattle.book.specs.declared.config.Config.{Config}
+use Rattle.book.specs.declared.state.KernelEvent.the-variants.{Halted}
 use Rattle.book.specs.declared.state.KernelState.{KernelState}
 use Rattle.book.specs.declared.state.Phase.{Phase}
 use Rattle.book.specs.declared.state.Phase.the-variants.{BeforeMatch, ObsQueued, AwaitDecision, Terminal}
@@ -21,7 +22,8 @@ use Rattle.rules.specs.Run.{Outcome, Run, ran, left, halt, ended}
 use Rattle.rules.specs.Events.{extraKind, extra}
 use Rattle.rules.specs.Phases.{onPhase, phaseTurn, turns, phases}
 use Rattle.rules.specs.Calls.{Answer, answerOn, answer, countsFit, advance}
-use Rattle.rules.proofs.Within.{Within, ran-in, map-in, runOf, iter-in}
+use Rattle.rules.proofs.Loop.{runOf}
+use Rattle.rules.proofs.Within.{Within, ran-in, map-in, iter-in}
 use Rattle.rules.proofs.Falls.{Kept, less}
 use Rattle.rules.proofs.Fewer.{before-in, AfterRow, onward, stopped, queued-in}
 
@@ -104,7 +106,7 @@ answer-few {n = n} r g = go (r .outcome)
     go : (o : Outcome) → length (answerOn o (r .state) (r .events) .events) ≤ n + 1
     go ran = omega (arith, g .few)
     go left = omega (arith, g .few)
-    go (halt h) = rw length-append (omega (arith, g .few))
+    go (halt h) = omega (arith, g .few, length-append (r .events) (Halted h ∷ []))
     go (ended ms) = omega (arith, g .few)
 
 phases-few : (c : Config) (rows : List ℕ) (s : KernelState) → countsFit s ≡ true → length (answer (phases c rows s) .events) ≤ 357 + 44 * (length rows / 5) + 1

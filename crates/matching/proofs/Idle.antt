@@ -1,5 +1,5 @@
--- A row that finds no live order to match or to sweep changes nothing. Assumes nothing.
-use Prim.Native.Nat.{ℕ, zero, suc, _+_, _≤_}
+-- A row that finds no live order to match or to sweep changes nothing, nor does one over a count above the capacity. Assumes nothing.
+use Prim.Native.Nat.{ℕ, zero, suc, _+_, _≤_, _<_}
 use mathlib.Core.Bool.{Bool, true, false}
 use mathlib.Core.List.{List, [], _∷_}
 use mathlib.Core.Option.{Option, none, some}
@@ -13,6 +13,7 @@ use borrow.Author.Tests.{ltb-true, ltb-false}
 use Rattle.numbers.specs.Choice.{pick}
 use Rattle.lists.specs.Lists.{onSome, before, foundIn, live, entryAt}
 use Rattle.lists.proofs.Cases.{pick-case, some-case}
+use Rattle.lists.proofs.Exits.{entry-over}
 use Rattle.book.specs.Entries.{blankOrder, isTerminal}
 use Rattle.book.specs.Rows.{ordersRow}
 use Rattle.book.specs.declared.VenueOrder.{VenueOrder}
@@ -75,7 +76,18 @@ module _ (row : KernelTick) (o : VenueOrder) (h : concerns row o ≡ false) wher
   unfolding concerns
   unswept = pick-case (λ (b : Bool). b ≡ false → isTerminal (o .state) ≡ false) (isTerminal (o .state)) true (matches row o) (λ _ e. let y : _≡_ {A = ℕ} 0 1 = cc in absurd (omega arith)) (λ e _. e) h
 
--- ---- the pass and the sweep
+-- ---- the pass and the sweep, where no turn does anything
+match-idle : (c : Config) (row : KernelTick) (s : KernelState) → ((i : ℕ) → matchAt c row i s ≡ ranTo s) → (k i : ℕ) → matchFrom c row k i s ≡ ranTo s
+unfolding matchFrom andThen
+match-idle c row s h zero i = refl
+match-idle c row s h (suc k) i = rw (h i) (match-idle c row s h k (i + 1))
+
+sweep-idle : (s : KernelState) → ((i : ℕ) → terminalAt i s ≡ false) → (k i : ℕ) → sweepFrom k i s ≡ ranTo s
+unfolding sweepFrom andThen pick
+sweep-idle s h zero i = refl
+sweep-idle s h (suc k) i = rw (h i) (sweep-idle s h k (i + 1))
+
+-- the row concerns no live order
 module _ (c : Config) (row : KernelTick) (s : KernelState) (h : busy row (s .orders) ≡ false) where
   match-still : (i : ℕ) → matchAt c row i s ≡ ranTo s
   unfolding matchAt fillsAt fillsOf pick
@@ -85,16 +97,19 @@ module _ (c : Config) (row : KernelTick) (s : KernelState) (h : busy row (s .ord
   unfolding terminalAt
   terminal-none i = some-case (λ (b : Bool). b ≡ false) _ _ _ (λ o e. unswept row o (still row (s .orders) h i o e)) (λ _. refl)
 
-  match-idle : (k i : ℕ) → matchFrom c row k i s ≡ ranTo s
-  unfolding matchFrom andThen
-  match-idle zero i = refl
-  match-idle (suc k) i = rw (match-still i) (match-idle k (i + 1))
-
-  sweep-idle : (k i : ℕ) → sweepFrom k i s ≡ ranTo s
-  unfolding sweepFrom andThen pick
-  sweep-idle zero i = refl
-  sweep-idle (suc k) i = rw (terminal-none i) (sweep-idle k (i + 1))
-
 pub idle : (c : Config) (row : KernelTick) (s : KernelState) → busy row (s .orders) ≡ false → andThen (matchFrom c row (s .orders .count) 0 s) sweep ≡ ranTo s
 unfolding sweep andThen
-idle c row s h = rw (match-idle c row s h (s .orders .count) 0) (sweep-idle c row s h (s .orders .count) 0)
+idle c row s h = rw (match-idle c row s (match-still c row s h) (s .orders .count) 0) (sweep-idle s (terminal-none c row s h) (s .orders .count) 0)
+
+-- the count is above the capacity: no order stands at any place
+module _ (s : KernelState) (h : 8 < s .orders .count) where
+  no-order : (i : ℕ) → none ≡ entryAt 8 blankOrder i (ordersRow (s .orders))
+  no-order i = entry-over 8 (ordersRow (s .orders)) blankOrder i h
+
+  pub match-above : (c : Config) (row : KernelTick) (k i : ℕ) → matchFrom c row k i s ≡ ranTo s
+  unfolding matchAt fillsAt onSome
+  match-above c row = match-idle c row s (λ i. rw (← no-order i))
+
+  pub sweep-above : (k i : ℕ) → sweepFrom k i s ≡ ranTo s
+  unfolding terminalAt onSome
+  sweep-above = sweep-idle s (λ i. rw (← no-order i))

@@ -15,7 +15,7 @@ use Rattle.lists.specs.Lists.{onSome, live, foundIn, entryAt, takeAt, storeAt, 
 use Rattle.lists.proofs.Exits.{put-full, push-in, store-in}
 use Rattle.book.specs.Entries.{blankOrder, remaining, inState, isTerminal, idAbove}
 use Rattle.book.specs.Rows.{ordersRow, ordersOf, ordersPut, ordersTaken, orderIn, deliveriesRow}
-use Rattle.book.specs.With.{withOrders, withMsgs, withDeliveries, seqsStampSeq, seqsNextExecId, gateMark2, countersVenueFills}
+use Rattle.book.specs.With.{withOrders, withMsgs, withDeliveries, seqsNextExecId, gateMark2, countersVenueFills}
 use Rattle.book.specs.declared.ExecKind.{ExecKind}
 use Rattle.book.specs.declared.ExecKind.the-variants as exec
 use Rattle.book.specs.declared.FillRec.{FillRec}
@@ -42,7 +42,7 @@ use Rattle.models.specs.Rules.{ruleGate}
 use Rattle.models.specs.declared.gate.Gated.{Gated}
 use Rattle.models.specs.declared.gate.Gated.the-variants.{Fail, Done}
 use Rattle.rules.specs.Run as rules
-use Rattle.rules.specs.Report.{stamp, pushDelivery, reportAt, reported, queueDelivery}
+use Rattle.rules.specs.Report.{pushDelivery, reportAt, reported, queueDelivery}
 use Rattle.rules.specs.Messages.{removeExpiry, await, awaitMarked}
 use Rattle.rules.specs.Matching.{matches, fillLots, gateFilled, filledBy, recordAt, fillKind, fillRecord, fillReport, fillCounted, fillEvent, fillAt, no-fill, fills, fails, fillsOf, fillsAt, filling, matchAt, matchFrom, leave, terminalAt, sweepFrom, gateMarked}
 use Rattle.rules.proofs.HeldMatching.{There, fills-there}
@@ -51,14 +51,16 @@ use Rattle.reports.specs.Report.{withReport, reportedIn}
 use Rattle.reports.specs.declared.Outcome.the-variants.{Ran, Halt}
 use Rattle.reports.specs.declared.Step.{Step}
 use Rattle.reports.specs.declared.report.Reported.{Reported}
+use Rattle.reports.specs.declared.report.Stamped.{Stamped}
 use Rattle.reports.proofs.ReportExits.{push-of}
-use Rattle.reports.proofs.Then.{expected-ran, Stopped, then-ran, then-stop, then-on, fits-none, fits-some}
+use Rattle.reports.proofs.Then.{expected-ran, Stopped, then-ran, then-stop, then-on, Stamps, stamp-stop, stamp-on, fits-none, fits-some}
 use Rattle.matching.specs.Matching.{withVenue, filledIn, withMatched, matchedIn, concerns, busy, ruleFills, withSwept, sweptIn}
 use Rattle.matching.specs.declared.Filled.{Filled}
 use Rattle.matching.specs.declared.Lots.{Lots}
 use Rattle.matching.specs.declared.Lots.the-variants as lots
 use Rattle.matching.specs.declared.Swept.{Swept}
 use Rattle.matching.specs.declared.Venue.{Venue}
+use Rattle.matching.proofs.Idle.{match-above, sweep-above}
 
 -- ---- a fill: the order after it, and its kind
 module _ (o : VenueOrder) (n rest : ℕ) (e : rest ≡ remaining o) where
@@ -85,42 +87,41 @@ module _ (o : VenueOrder) (n rest : ℕ) (e : rest ≡ remaining o) where
 abbrev HaltsAt : HaltReason → Venue → ℕ → Filled → Type 0
 HaltsAt h v raised r = (s : KernelState) (w : List ℕ) → actual (filledIn s r) w ≡ expected (logAt w raised) (rules.haltAt h (withVenue s v))
 
-module _ (w : List ℕ) (raised : ℕ) (o : VenueOrder) (n : ℕ) (v : Venue)
-    (next : MaybeU64) (e : next ≡ fitting (v .seqs .«stamp_seq» + 1)) where
-  pub fill-unstamped : next ≡ u64.None → {r : Filled} → HaltsAt CounterOverflow v raised r
-      → (s : KernelState) → actual (filledIn s r) w ≡ expected (logAt w raised) (fillEvent o n (withVenue s v))
-  unfolding fillEvent stamp onWord rules.andThen
-  fill-unstamped h f s = rw (← e, h) (f s w)
+module _ (w : List ℕ) (raised : ℕ) (o : VenueOrder) (n : ℕ) (v : Venue) (a : Stamped) (e : Stamps (v .seqs) a) where
+  abbrev stamped : Venue
+  stamped = record { «rng_latency» = v .«rng_latency»; clock = v .clock; seqs = a .seqs; gate = v .gate; counters = v .counters }
 
-  module _ (q : ℕ) (h : next ≡ u64.Some q) (gated : Gated) (eg : ruleGate gated ≡ gateFilled (o .side) n (v .gate)) where
-    abbrev stamped : Venue
-    stamped = record { «rng_latency» = v .«rng_latency»; clock = v .clock; seqs = seqsStampSeq (v .seqs) q; gate = v .gate; counters = v .counters }
+  pub fill-unstamped : Stopped (a .outcome) → (s : KernelState)
+      → actual (filledIn s (record { outcome = a .outcome; venue = stamped; raised = raised })) w ≡ expected (logAt w raised) (fillEvent o n (withVenue s v))
+  unfolding fillEvent
+  fill-unstamped m s = stamp-stop w raised (withVenue s v) _ a e m
 
+  module _ (h : a .outcome ≡ Ran) (gated : Gated) (eg : ruleGate gated ≡ gateFilled (o .side) n (v .gate)) where
     pub fill-ungated : gated ≡ Fail → {r : Filled} → HaltsAt CounterOverflow stamped raised r
         → (s : KernelState) → actual (filledIn s r) w ≡ expected (logAt w raised) (fillEvent o n (withVenue s v))
-    unfolding fillEvent stamp onWord onSome rules.andThen
-    fill-ungated g f s = rw (← e, h, ← eg, g) (f s w)
+    unfolding fillEvent onSome
+    fill-ungated g f s = stamp-on w raised (withVenue s v) _ a e h (rw (← eg, g) (f s w))
 
     module _ (kept : GateState) (g : gated ≡ Done kept) (doubled : MaybeU64) (ed : doubled ≡ fitting (o .price * 2)) where
       pub fill-priceless : doubled ≡ u64.None → {r : Filled} → HaltsAt LedgerOverflow stamped raised r
           → (s : KernelState) → actual (filledIn s r) w ≡ expected (logAt w raised) (fillEvent o n (withVenue s v))
-      unfolding fillEvent stamp onWord onSome pick rules.andThen
-      fill-priceless d f s = rw (← e, h, ← eg, g, fits-none (o .price * 2) (sym ed ∙ d)) (f s w)
+      unfolding fillEvent onSome pick
+      fill-priceless d f s = stamp-on w raised (withVenue s v) _ a e h (rw (← eg, g, fits-none (o .price * 2) (sym ed ∙ d)) (f s w))
 
-      module _ (x : ℕ) (d : doubled ≡ u64.Some x) (exec : MaybeU64) (ex : exec ≡ fitting (v .seqs .«next_exec_id» + 1)) where
+      module _ (x : ℕ) (d : doubled ≡ u64.Some x) (exec : MaybeU64) (ex : exec ≡ fitting (a .seqs .«next_exec_id» + 1)) where
         pub fill-unnumbered : exec ≡ u64.None → {r : Filled} → HaltsAt CounterOverflow stamped raised r
             → (s : KernelState) → actual (filledIn s r) w ≡ expected (logAt w raised) (fillEvent o n (withVenue s v))
-        unfolding fillEvent stamp onWord onSome pick rules.andThen
-        fill-unnumbered k f s = rw (← e, h, ← eg, g, fits-some (o .price * 2) x (sym ed ∙ d), ← ex, k) (f s w)
+        unfolding fillEvent onWord onSome pick
+        fill-unnumbered k f s = stamp-on w raised (withVenue s v) _ a e h (rw (← eg, g, fits-some (o .price * 2) x (sym ed ∙ d), ← ex, k) (f s w))
 
         module _ (k : ℕ) (j : exec ≡ u64.Some k) (count : MaybeU64) (ec : count ≡ fitting (v .counters .«venue_fills» + 1)) where
           abbrev numbered : Venue
-          numbered = record { «rng_latency» = v .«rng_latency»; clock = v .clock; seqs = seqsNextExecId (seqsStampSeq (v .seqs) q) k; gate = kept; counters = v .counters }
+          numbered = record { «rng_latency» = v .«rng_latency»; clock = v .clock; seqs = seqsNextExecId (a .seqs) k; gate = kept; counters = v .counters }
 
           pub fill-uncounted : count ≡ u64.None → {r : Filled} → HaltsAt CounterOverflow numbered raised r
               → (s : KernelState) → actual (filledIn s r) w ≡ expected (logAt w raised) (fillEvent o n (withVenue s v))
-          unfolding fillEvent fillCounted stamp onWord onSome pick rules.andThen
-          fill-uncounted m f s = rw (← e, h, ← eg, g, fits-some (o .price * 2) x (sym ed ∙ d), ← ex, j, ← ec, m) (f s w)
+          unfolding fillEvent fillCounted onWord onSome pick
+          fill-uncounted m f s = stamp-on w raised (withVenue s v) _ a e h (rw (← eg, g, fits-some (o .price * 2) x (sym ed ∙ d), ← ex, j, ← ec, m) (f s w))
 
           pub fill-raised : (y m : ℕ) (w1 : List ℕ) (rec : FillRec) → count ≡ u64.Some y
               → rec ≡ recordAt (v .clock .«now_ns») (v .seqs .«next_exec_id») o n
@@ -128,12 +129,13 @@ module _ (w : List ℕ) (raised : ℕ) (o : VenueOrder) (n : ℕ) (v : Venue)
               → (s : KernelState)
               → actual (filledIn s (record {
                 outcome = Ran;
-                venue = record { «rng_latency» = v .«rng_latency»; clock = v .clock; seqs = seqsNextExecId (seqsStampSeq (v .seqs) q) k; gate = kept; counters = countersVenueFills (v .counters) y };
+                venue = record { «rng_latency» = v .«rng_latency»; clock = v .clock; seqs = seqsNextExecId (a .seqs) k; gate = kept; counters = countersVenueFills (v .counters) y };
                 raised = m;
               })) w1
               ≡ expected (logAt w raised) (fillEvent o n (withVenue s v))
-          unfolding fillEvent fillCounted stamp onWord onSome pick rules.andThen expected appendEvents
-          fill-raised y m w1 rec c er em s = rw (← e, h, ← eg, g, fits-some (o .price * 2) x (sym ed ∙ d), ← ex, j, ← ec, c, ← er, ← em)
+          unfolding fillEvent fillCounted onWord onSome pick expected appendEvents
+          fill-raised y m w1 rec c er em s =
+              stamp-on w raised (withVenue s v) _ a e h (rw (← eg, g, fits-some (o .price * 2) x (sym ed ∙ d), ← ex, j, ← ec, c, ← er, ← em))
 
 -- ---- behind the event: the order stored, the report and the delivery
 -- the state with the filled order stored
@@ -282,6 +284,11 @@ pub match-end : (w : List ℕ) (raised : ℕ) (cfg : Config) (row : KernelTick) 
 unfolding matchFrom
 match-end w raised cfg row i v os ds q h s = rw h (expected-ran (logAt w raised) (withMatched s v os ds))
 
+-- a count above the capacity
+pub match-over : (w : List ℕ) (raised : ℕ) (cfg : Config) (row : KernelTick) (v : Venue) (os : Orders) (ds : Deliveries) (q i : ℕ) → 8 < os .count → (s : KernelState)
+    → actual (matchedIn s (record { outcome = Ran; venue = v; orders = os; deliveries = ds; raised = raised })) w ≡ expected (logAt w raised) (matchFrom cfg row q i (withMatched s v os ds))
+match-over w raised cfg row v os ds q i h s = rw (match-above (withMatched s v os ds) h cfg row q i) (expected-ran (logAt w raised) (withMatched s v os ds))
+
 -- ---- a terminal order that leaves
 module _ (os : Orders) (i : ℕ) (got : MaybeOrder) (e : orderIn got ≡ entryAt 8 blankOrder i (ordersRow os)) where
   pub terminal-none : got ≡ found.None → (s : KernelState) → false ≡ terminalAt i (withOrders s os)
@@ -349,6 +356,10 @@ pub sweep-end : (place : ℕ) (os : Orders) (ms : Msgs) (aw : Orders) (q : ℕ) 
     → actual (sweptIn s n (record { outcome = Ran; orders = os; msgs = ms; awaiting = aw })) w ≡ expected (logAt w n) (sweepFrom q place (withSwept s os ms aw))
 unfolding sweepFrom
 sweep-end place os ms aw q h s n w = rw h (expected-ran (logAt w n) (withSwept s os ms aw))
+
+pub sweep-over : (os : Orders) (ms : Msgs) (aw : Orders) (q place : ℕ) → 8 < os .count → (s : KernelState) (n : ℕ) (w : List ℕ)
+    → actual (sweptIn s n (record { outcome = Ran; orders = os; msgs = ms; awaiting = aw })) w ≡ expected (logAt w n) (sweepFrom q place (withSwept s os ms aw))
+sweep-over os ms aw q place h s n w = rw (sweep-above (withSwept s os ms aw) h q place) (expected-ran (logAt w n) (withSwept s os ms aw))
 
 -- ---- the mark
 pub mark-none : (g : GateState) (mid2 : ℕ) → mid2 ≡ 0 → g ≡ gateMarked mid2 g

@@ -29,6 +29,7 @@ use numbers::words::checked_mul;
 use reports::Outcome;
 use reports::log::emit;
 use reports::report::report_on;
+use reports::report::stamp;
 use reports::report::status_report;
 ghost use mathlib.Core.Path.{_≡_};
 ghost use mathlib.Core.List.{List};
@@ -138,12 +139,18 @@ fn fill_at(log: &mut [u64], raised: u64, order: VenueOrder, lots: u64, v: Venue)
     ensures { λ r. ⌜ ((s : KernelState) → actual (filledIn s r) (now (log .exit)) ≡ expected (logAt (now (log .entry)) raised) (fillEvent order lots (withVenue s v))) ⌝ }
 {
     let before = v.seqs;
-    let next = checked_add(before.stamp_seq, 1);
-    let MaybeU64::Some(stamp_seq) = next else {
-        return stopped(HaltReason::CounterOverflow, v, raised);
-    };
+    let a = stamp(before);
+    let after = a.seqs;
     let mut u = v;
-    u.seqs.stamp_seq = stamp_seq;
+    u.seqs = after;
+    let o = a.outcome;
+    let Outcome::Ran = o else {
+        return Filled {
+            outcome: o,
+            venue: u,
+            raised,
+        };
+    };
     let side = order.side;
     let g = v.gate;
     let gated = gate::fill(g, side, lots);
@@ -154,7 +161,7 @@ fn fill_at(log: &mut [u64], raised: u64, order: VenueOrder, lots: u64, v: Venue)
     let MaybeU64::Some(_) = doubled else {
         return stopped(HaltReason::LedgerOverflow, u, raised);
     };
-    let exec = checked_add(before.next_exec_id, 1);
+    let exec = checked_add(after.next_exec_id, 1);
     let MaybeU64::Some(next_exec_id) = exec else {
         return stopped(HaltReason::CounterOverflow, u, raised);
     };
@@ -208,6 +215,15 @@ pub fn match_orders(
     ensures { λ r. ⌜ ((s : KernelState) → actual (matchedIn s r) (now (log .exit)) ≡ expected (logAt (now (log .entry)) raised) (matchFrom cfg row (orders .count) 0 (withMatched s venue orders deliveries))) ⌝ }
 {
     let count = orders.count;
+    if count > book::orders::CAPACITY {
+        return Matched {
+            outcome: Outcome::Ran,
+            venue,
+            orders,
+            deliveries,
+            raised,
+        };
+    }
     let mode = cfg.fill;
     let mut v = venue;
     let mut os = orders;
@@ -340,6 +356,14 @@ pub fn sweep(orders: Orders, msgs: Msgs, awaiting: Orders) -> Swept
     ensures { λ r. ⌜ ((s : KernelState) (n : ℕ) (w : List ℕ) → actual (sweptIn s n r) w ≡ expected (logAt w n) (sweepFrom (orders .count) 0 (withSwept s orders msgs awaiting))) ⌝ }
 {
     let looks = orders.count;
+    if looks > book::orders::CAPACITY {
+        return Swept {
+            outcome: Outcome::Ran,
+            orders,
+            msgs,
+            awaiting,
+        };
+    }
     let mut o = orders;
     let mut m = msgs;
     let mut a = awaiting;

@@ -1,5 +1,5 @@
 -- `messages`, a cancel, an expiry, and which of the three acts: one law for each way out of a function. Assumes nothing.
-use Prim.Native.Nat.{ℕ, _+_}
+use Prim.Native.Nat.{ℕ}
 use mathlib.Core.Bool.{false}
 use mathlib.Core.List.{List, [], _∷_}
 use mathlib.Core.Logic.{⊎-elim}
@@ -7,13 +7,10 @@ use mathlib.Core.Path.{_≡_, refl, sym, ap, _∙_}
 use native.Mathlib.Omega.{arith}
 use types.Run.{OneOf}
 use denote.Enum.Declared.{tagOf}
-use Rattle.numbers.specs.Words.{fitting}
-use Rattle.numbers.specs.declared.MaybeU64.{MaybeU64}
-use Rattle.numbers.specs.declared.MaybeU64.the-variants as u64
 use Rattle.lists.specs.Lists.{onSome, live, foundIn, takeAt, popped}
 use Rattle.book.specs.Entries.{blankOrder, blankMsg, inState, isOpen, hasId, isActivation, place}
 use Rattle.book.specs.Rows.{ordersRow, orderIn, ordersTaken, msgsRow, msgIn, msgsTaken}
-use Rattle.book.specs.With.{withSeqs, withOrders, withMsgs, withAwaiting, seqsStampSeq}
+use Rattle.book.specs.With.{withSeqs, withOrders, withMsgs, withAwaiting}
 use Rattle.book.specs.declared.ExecKind.the-variants as exec
 use Rattle.book.specs.declared.Found.{Found}
 use Rattle.book.specs.declared.Found.the-variants as found
@@ -30,17 +27,18 @@ use Rattle.book.specs.declared.msgs.Msgs.{Msgs}
 use Rattle.book.specs.declared.msgs.MsgsTaken.{MsgsTaken}
 use Rattle.book.specs.declared.orders.MaybeOrder.the-variants as maybe
 use Rattle.book.specs.declared.orders.OrdersTaken.{OrdersTaken}
-use Rattle.book.specs.declared.state.HaltReason.the-variants.{CounterOverflow}
 use Rattle.book.specs.declared.state.KernelEvent.the-variants.{Expired}
 use Rattle.book.specs.declared.state.KernelState.{KernelState}
 use Rattle.rules.specs.Run as rules
 use Rattle.rules.specs.Report.{reportAt, queueDelivery}
 use Rattle.rules.specs.Messages.{release, awaitMarked, removeExpiry, activation, cancelBooked, onActivation, cancelPending, cancelAwaiting, cancel, expireBooked, expire, applyNextMsg}
 use Rattle.reports.specs.Log.{logAt, appendEvent, StepResult, expected, actual, stampedAt}
+use Rattle.reports.specs.Report.{stampedIn}
 use Rattle.reports.specs.declared.Outcome.the-variants.{Ran}
 use Rattle.reports.specs.declared.Step.{Step}
-use Rattle.reports.proofs.Then.{Stopped, expected-ran, then-stop, then-on, raise-on, stamp-on, stamp-full, sent, take-on, take-none}
-use Rattle.messages.proofs.MessagesExits.{ranStep, haltStep}
+use Rattle.reports.specs.declared.report.Stamped.{Stamped}
+use Rattle.reports.proofs.Then.{Stopped, expected-ran, then-stop, then-on, raise-on, Stamps, stamp-stop, stamp-at, sent, take-on, take-none}
+use Rattle.messages.proofs.MessagesExits.{ranStep}
 
 -- ---- a booked order
 module _ (w : List ℕ) (raised seq index : ℕ) (cfg : Config) (s : KernelState)
@@ -136,32 +134,35 @@ module _ (w : List ℕ) (raised seq index : ℕ) (cfg : Config) (s : KernelState
   awaiting-reported o h report hr p = take-on _ _ _ _ (ordersTaken taken) et (ap orderIn h) (sent _ _ _ hr p)
 
 -- ---- which of them
-module _ (w : List ℕ) (raised id : ℕ) (cfg : Config) (s : KernelState) (next : MaybeU64) (e : next ≡ fitting (s .seqs .«stamp_seq» + 1)) where
-  pub cancel-full : next ≡ u64.None → actual (haltStep CounterOverflow s raised) w ≡ expected (logAt w raised) (cancel cfg id s)
+module _ (w : List ℕ) (raised id : ℕ) (cfg : Config) (s : KernelState) (a : Stamped) (e : Stamps (s .seqs) a) where
+  pub cancel-unstamped : Stopped (a .outcome) → actual (stampedIn s raised a) w ≡ expected (logAt w raised) (cancel cfg id s)
   unfolding cancel
-  cancel-full h = stamp-full _ s _ next e h
+  cancel-unstamped m = stamp-stop w raised s _ a e m
 
-  module _ (n : ℕ) (h : next ≡ u64.Some n) (booked : Found) (eb : place booked ≡ foundIn (isOpen id) (live 8 (ordersRow (s .orders)))) where
-    pub cancel-booked : (i : ℕ) → booked ≡ found.At i → {x : StepResult} → x ≡ expected (logAt w raised) (cancelBooked cfg s i (withSeqs s (seqsStampSeq (s .seqs) n)))
-        → x ≡ expected (logAt w raised) (cancel cfg id s)
+  module _ (h : a .outcome ≡ Ran) (booked : Found) (eb : place booked ≡ foundIn (isOpen id) (live 8 (ordersRow (s .orders)))) where
+    abbrev after : KernelState
+    after = withSeqs s (a .seqs)
+
+    abbrev at-stamp : KernelState
+    at-stamp = stampedAt (s .seqs .«stamp_seq») after
+
+    pub cancel-booked : (i : ℕ) → booked ≡ found.At i → {x : StepResult} → x ≡ expected (logAt w raised) (cancelBooked cfg at-stamp i after) → x ≡ expected (logAt w raised) (cancel cfg id s)
     unfolding cancel onSome
-    cancel-booked i hb p = stamp-on _ s _ next e h (rw (← eb, hb) p)
+    cancel-booked i hb p = stamp-at w raised s _ a e h (λ t. cancelBooked cfg t i after) (rw (← eb, hb)) p
 
     module _ (hb : booked ≡ found.None) (pending : Found) (ep : place pending ≡ foundIn (isActivation id) (live 16 (msgsRow (s .msgs)))) where
-      pub cancel-pending : (i : ℕ) → pending ≡ found.At i → {x : StepResult} → x ≡ expected (logAt w raised) (cancelPending cfg s i (withSeqs s (seqsStampSeq (s .seqs) n)))
-          → x ≡ expected (logAt w raised) (cancel cfg id s)
+      pub cancel-pending : (i : ℕ) → pending ≡ found.At i → {x : StepResult} → x ≡ expected (logAt w raised) (cancelPending cfg at-stamp i after) → x ≡ expected (logAt w raised) (cancel cfg id s)
       unfolding cancel onSome
-      cancel-pending i hp p = stamp-on _ s _ next e h (rw (← eb, hb, ← ep, hp) p)
+      cancel-pending i hp p = stamp-at w raised s _ a e h (λ t. cancelPending cfg t i after) (rw (← eb, hb, ← ep, hp)) p
 
       module _ (hp : pending ≡ found.None) (late : Found) (el : place late ≡ foundIn (hasId id) (live 8 (ordersRow (s .awaiting)))) where
-        pub cancel-awaiting : (i : ℕ) → late ≡ found.At i → {x : StepResult} → x ≡ expected (logAt w raised) (cancelAwaiting cfg s i (withSeqs s (seqsStampSeq (s .seqs) n)))
-            → x ≡ expected (logAt w raised) (cancel cfg id s)
+        pub cancel-awaiting : (i : ℕ) → late ≡ found.At i → {x : StepResult} → x ≡ expected (logAt w raised) (cancelAwaiting cfg at-stamp i after) → x ≡ expected (logAt w raised) (cancel cfg id s)
         unfolding cancel onSome
-        cancel-awaiting i hl p = stamp-on _ s _ next e h (rw (← eb, hb, ← ep, hp, ← el, hl) p)
+        cancel-awaiting i hl p = stamp-at w raised s _ a e h (λ t. cancelAwaiting cfg t i after) (rw (← eb, hb, ← ep, hp, ← el, hl)) p
 
-        pub cancel-unknown : late ≡ found.None → actual (ranStep (withSeqs s (seqsStampSeq (s .seqs) n)) raised) w ≡ expected (logAt w raised) (cancel cfg id s)
+        pub cancel-unknown : late ≡ found.None → actual (ranStep after raised) w ≡ expected (logAt w raised) (cancel cfg id s)
         unfolding cancel onSome
-        cancel-unknown hl = stamp-on _ s _ next e h (rw (← eb, hb, ← ep, hp, ← el, hl) (expected-ran _ _))
+        cancel-unknown hl = stamp-at w raised s _ a e h (λ _. rules.ranTo after) (rw (← eb, hb, ← ep, hp, ← el, hl)) (expected-ran _ _)
 
 -- ---- an expiry
 module _ (w : List ℕ) (raised id : ℕ) (cfg : Config) (s : KernelState) (booked : Found) (eb : place booked ≡ foundIn (isOpen id) (live 8 (ordersRow (s .orders)))) where
@@ -169,15 +170,15 @@ module _ (w : List ℕ) (raised id : ℕ) (cfg : Config) (s : KernelState) (book
   unfolding expire onSome
   expire-unbooked h = rw (← eb, h) (expected-ran _ s)
 
-  module _ (i : ℕ) (hb : booked ≡ found.At i) (next : MaybeU64) (e : next ≡ fitting (s .seqs .«stamp_seq» + 1)) where
-    pub expire-full : next ≡ u64.None → actual (haltStep CounterOverflow s raised) w ≡ expected (logAt w raised) (expire cfg id s)
+  module _ (i : ℕ) (hb : booked ≡ found.At i) (a : Stamped) (e : Stamps (s .seqs) a) where
+    pub expire-unstamped : Stopped (a .outcome) → actual (stampedIn s raised a) w ≡ expected (logAt w raised) (expire cfg id s)
     unfolding expire onSome
-    expire-full h = rw (← eb, hb) (stamp-full _ s _ next e h)
+    expire-unstamped m = rw (← eb, hb) (stamp-stop w raised s (expireBooked cfg s i) a e m)
 
-    pub expire-found : (n : ℕ) → next ≡ u64.Some n → {x : StepResult} → x ≡ expected (logAt w raised) (expireBooked cfg s i (withSeqs s (seqsStampSeq (s .seqs) n)))
+    pub expire-found : a .outcome ≡ Ran → {x : StepResult} → x ≡ expected (logAt w raised) (expireBooked cfg (stampedAt (s .seqs .«stamp_seq») (withSeqs s (a .seqs))) i (withSeqs s (a .seqs)))
         → x ≡ expected (logAt w raised) (expire cfg id s)
     unfolding expire onSome
-    expire-found n h p = rw (← eb, hb) (stamp-on _ s _ next e h p)
+    expire-found h p = rw (← eb, hb) (stamp-at w raised s (expireBooked cfg s i) a e h (λ t. expireBooked cfg t i (withSeqs s (a .seqs))) refl p)
 
 -- ---- the first message
 module _ (w : List ℕ) (raised : ℕ) (cfg : Config) (s : KernelState) (taken : MsgsTaken) (et : msgsTaken taken ≡ popped 16 blankMsg (msgsRow (s .msgs))) where

@@ -1,8 +1,9 @@
 -- `messages`, the parts that raise no event: one law for each way out of a function. Assumes nothing.
 use Prim.Native.Nat.{ℕ, _+_}
-use mathlib.Core.Bool.{Bool, true, false, not}
+use mathlib.Core.Bool.{true, false, not}
 use mathlib.Core.List.{List}
-use mathlib.Core.Path.{_≡_, refl, sym}
+use mathlib.Core.Path.{_≡_}
+use borrow.Author.Tests.{not-true, not-false}
 use Rattle.numbers.specs.Choice.{pick}
 use Rattle.numbers.specs.Words.{fitting, onWord}
 use Rattle.numbers.specs.declared.MaybeU64.{MaybeU64}
@@ -39,15 +40,6 @@ ranStep s n = record { outcome = Ran; state = s; raised = n }
 abbrev pub haltStep : HaltReason → KernelState → ℕ → Step
 haltStep h s n = record { outcome = Halt h; state = s; raised = n }
 
--- a test of what is not so
-is-false : (b : Bool) → not b ≡ true → b ≡ false
-is-false true h = sym h
-is-false false h = refl
-
-is-true : (b : Bool) → not b ≡ false → b ≡ true
-is-true true h = refl
-is-true false h = sym h
-
 -- ---- the gate's release
 module _ (raised lots : ℕ) (o : VenueOrder) (s : KernelState) (g : Gated) (n : lots ≡ remaining o) (e : ruleGate g ≡ released (o .side) lots (s .gate)) where
   pub release-kept : {x : GateState} → g ≡ Done x → (w : List ℕ) → actual (ranStep (withGate s x) raised) w ≡ expected (logAt w raised) (release o s)
@@ -62,25 +54,25 @@ module _ (raised lots : ℕ) (o : VenueOrder) (s : KernelState) (g : Gated) (n :
 module _ (raised : ℕ) (o : VenueOrder) (s : KernelState) where
   pub await-unmarked : not (o .«cancel_inflight») ≡ true → (w : List ℕ) → actual (ranStep s raised) w ≡ expected (logAt w raised) (awaitMarked o s)
   unfolding awaitMarked pick expected appendEvents
-  await-unmarked h w = rw (is-false (o .«cancel_inflight») h)
+  await-unmarked h w = rw (not-true (o .«cancel_inflight») h)
 
   module _ (h : not (o .«cancel_inflight») ≡ false) (put : OrdersPut) (e : ordersPut put ≡ putBefore 8 (idAbove (o .id)) o (ordersRow (s .awaiting))) where
     pub await-in : not (put .ok) ≡ false → (w : List ℕ) → actual (ranStep (withAwaiting s (put .list)) raised) w ≡ expected (logAt w raised) (awaitMarked o s)
     unfolding awaitMarked await rules.putting pick expected appendEvents
-    await-in k w = rw (← e, is-true (o .«cancel_inflight») h, is-true (put .ok) k)
+    await-in k w = rw (← e, not-false (o .«cancel_inflight») h, not-false (put .ok) k)
 
     pub await-full : not (put .ok) ≡ true → (w : List ℕ) → actual (haltStep CounterOverflow s raised) w ≡ expected (logAt w raised) (awaitMarked o s)
     unfolding awaitMarked await rules.putting pick expected appendEvents
-    await-full k w = rw (← e, is-true (o .«cancel_inflight») h, is-false (put .ok) k)
+    await-full k w = rw (← e, not-false (o .«cancel_inflight») h, not-true (put .ok) k)
 
   module _ (put : OrdersPut) (e : ordersPut put ≡ pushed 8 o (ordersRow (s .orders))) where
     pub book-in : not (put .ok) ≡ false → (w : List ℕ) → actual (ranStep (withOrders s (put .list)) raised) w ≡ expected (logAt w raised) (book o s)
     unfolding book rules.putting pick expected appendEvents
-    book-in k w = rw (← e, is-true (put .ok) k)
+    book-in k w = rw (← e, not-false (put .ok) k)
 
     pub book-full : not (put .ok) ≡ true → (w : List ℕ) → actual (haltStep CounterOverflow s raised) w ≡ expected (logAt w raised) (book o s)
     unfolding book rules.putting pick expected appendEvents
-    book-full k w = rw (← e, is-false (put .ok) k)
+    book-full k w = rw (← e, not-true (put .ok) k)
 
 module _ (raised at : ℕ) (kind : MsgKind) (s : KernelState) (next : MaybeU64) (e : next ≡ fitting (s .seqs .«next_msg_seq» + 1)) where
   pub schedule-none : next ≡ u64.None → (w : List ℕ) → actual (haltStep CounterOverflow s raised) w ≡ expected (logAt w raised) (schedule at kind s)
@@ -92,12 +84,12 @@ module _ (raised at : ℕ) (kind : MsgKind) (s : KernelState) (next : MaybeU64) 
     pub schedule-in : not (put .ok) ≡ false → (w : List ℕ)
         → actual (ranStep (withMsgs (withSeqs s (seqsNextMsgSeq (s .seqs) n)) (put .list)) raised) w ≡ expected (logAt w raised) (schedule at kind s)
     unfolding schedule onWord rules.putting pick expected appendEvents
-    schedule-in k w = rw (← e, h, ← p, is-true (put .ok) k)
+    schedule-in k w = rw (← e, h, ← p, not-false (put .ok) k)
 
     pub schedule-full : not (put .ok) ≡ true → (w : List ℕ)
         → actual (haltStep CounterOverflow (withSeqs s (seqsNextMsgSeq (s .seqs) n)) raised) w ≡ expected (logAt w raised) (schedule at kind s)
     unfolding schedule onWord rules.putting pick expected appendEvents
-    schedule-full k w = rw (← e, h, ← p, is-false (put .ok) k)
+    schedule-full k w = rw (← e, h, ← p, not-true (put .ok) k)
 
 module _ (raised id : ℕ) (s : KernelState) (expiry : MaybeU64) where
   pub no-expiry : expiry ≡ u64.None → (w : List ℕ) → actual (ranStep s raised) w ≡ expected (logAt w raised) (scheduleExpiry expiry id s)

@@ -20,11 +20,14 @@ use reports::Outcome;
 use reports::Step;
 use reports::log::emit;
 use reports::report::send;
+use reports::report::stamp;
 use reports::report::status_report;
 ghost use mathlib.Core.Path.{_≡_};
 ghost use mathlib.Core.List.{List};
 ghost use Prim.Native.Nat.{ℕ};
-ghost use Rattle.rules.specs.Messages.{release, awaitMarked, book, schedule, removeExpiry, scheduleExpiry, accept, reject, activate, activation, cancelBooked, cancelPending, cancelAwaiting, cancel, expireBooked, expire, applyNextMsg};
+ghost use mathlib.Core.Bool.{_&&_};
+ghost use lib.Dec.{ltb};
+ghost use Rattle.rules.specs.Messages.{release, awaitMarked, book, schedule, removeExpiry, valid, scheduleExpiry, accept, reject, activate, activation, cancelBooked, cancelPending, cancelAwaiting, cancel, expireBooked, expire, applyNextMsg};
 ghost use Rattle.book.specs.declared.state.KernelState.{KernelState};
 ghost use Rattle.book.specs.With.{withMsgs};
 ghost use Rattle.reports.specs.Log.{logAt, expected, actual, stampedAt};
@@ -222,6 +225,19 @@ fn reject(
     await_marked(b.raised, order, b.state)
 }
 
+fn is_valid(order: VenueOrder) -> bool
+    ensures { λ r. ⌜ r ≡ valid order ⌝ }
+{
+    order.price > 0 && order.qty > 0
+}
+
+// Whether an activation has an expiry to queue.
+fn expires(order: VenueOrder, life: u64) -> bool
+    ensures { λ r. ⌜ r ≡ (valid order && ltb 0 life) ⌝ }
+{
+    is_valid(order) && life > 0
+}
+
 // An activation that has left the queue; `expiry` is the time of the order's expiry, if it has a life.
 fn activate(
     log: &mut [u64],
@@ -233,34 +249,26 @@ fn activate(
 ) -> Step
     ensures { λ r. ⌜ actual r (now (log .exit)) ≡ expected (logAt (now (log .entry)) raised) (activate cfg order expiry s) ⌝ }
 {
-    let seq = s.seqs.stamp_seq;
-    let next = checked_add(seq, 1);
-    let MaybeU64::Some(stamp_seq) = next else {
+    let before = s.seqs;
+    let a = stamp(before);
+    let after = a.seqs;
+    let mut t = s;
+    t.seqs = after;
+    let o = a.outcome;
+    let Outcome::Ran = o else {
         return Step {
-            outcome: Outcome::Halt(HaltReason::CounterOverflow),
-            state: s,
+            outcome: o,
+            state: t,
             raised,
         };
     };
-    let mut t = s;
-    t.seqs.stamp_seq = stamp_seq;
-    if order.price == 0 {
+    if !is_valid(order) {
         return reject(
             log,
             raised,
             cfg,
             order.in_state(OrderState::Rejected),
-            seq,
-            t,
-        );
-    }
-    if order.qty == 0 {
-        return reject(
-            log,
-            raised,
-            cfg,
-            order.in_state(OrderState::Rejected),
-            seq,
+            before.stamp_seq,
             t,
         );
     }
@@ -270,7 +278,7 @@ fn activate(
         cfg,
         order.in_state(OrderState::Active),
         expiry,
-        seq,
+        before.stamp_seq,
         t,
     )
 }
@@ -287,13 +295,7 @@ fn activation(
 ) -> Step
     ensures { λ r. ⌜ actual r (now (log .exit)) ≡ expected (logAt (now (log .entry)) raised) (activation cfg order life s t) ⌝ }
 {
-    if order.price == 0 {
-        return activate(log, raised, cfg, order, MaybeU64::None, t);
-    }
-    if order.qty == 0 {
-        return activate(log, raised, cfg, order, MaybeU64::None, t);
-    }
-    if life == 0 {
+    if !expires(order, life) {
         return activate(log, raised, cfg, order, MaybeU64::None, t);
     }
     let sum = checked_add(order.active_after_ns, life);
@@ -428,31 +430,33 @@ fn cancel_awaiting(
 fn apply_cancel(log: &mut [u64], raised: u64, cfg: Config, id: u64, s: KernelState) -> Step
     ensures { λ r. ⌜ actual r (now (log .exit)) ≡ expected (logAt (now (log .entry)) raised) (cancel cfg id s) ⌝ }
 {
-    let seq = s.seqs.stamp_seq;
-    let next = checked_add(seq, 1);
-    let MaybeU64::Some(stamp_seq) = next else {
+    let before = s.seqs;
+    let a = stamp(before);
+    let after = a.seqs;
+    let mut t = s;
+    t.seqs = after;
+    let o = a.outcome;
+    let Outcome::Ran = o else {
         return Step {
-            outcome: Outcome::Halt(HaltReason::CounterOverflow),
-            state: s,
+            outcome: o,
+            state: t,
             raised,
         };
     };
-    let mut t = s;
-    t.seqs.stamp_seq = stamp_seq;
     let orders = s.orders;
     let booked = orders.booked(id);
     if let Found::At(index) = booked {
-        return cancel_booked(log, raised, cfg, seq, index, t);
+        return cancel_booked(log, raised, cfg, before.stamp_seq, index, t);
     }
     let msgs = s.msgs;
     let pending = msgs.activation(id);
     if let Found::At(index) = pending {
-        return cancel_pending(log, raised, cfg, seq, index, t);
+        return cancel_pending(log, raised, cfg, before.stamp_seq, index, t);
     }
     let awaiting = s.awaiting;
     let late = awaiting.position(id);
     if let Found::At(index) = late {
-        return cancel_awaiting(log, raised, cfg, seq, index, t);
+        return cancel_awaiting(log, raised, cfg, before.stamp_seq, index, t);
     }
     Step {
         outcome: Outcome::Ran,
@@ -526,18 +530,20 @@ fn apply_expire(log: &mut [u64], raised: u64, cfg: Config, id: u64, s: KernelSta
             raised,
         };
     };
-    let seq = s.seqs.stamp_seq;
-    let next = checked_add(seq, 1);
-    let MaybeU64::Some(stamp_seq) = next else {
+    let before = s.seqs;
+    let a = stamp(before);
+    let after = a.seqs;
+    let mut t = s;
+    t.seqs = after;
+    let o = a.outcome;
+    let Outcome::Ran = o else {
         return Step {
-            outcome: Outcome::Halt(HaltReason::CounterOverflow),
-            state: s,
+            outcome: o,
+            state: t,
             raised,
         };
     };
-    let mut t = s;
-    t.seqs.stamp_seq = stamp_seq;
-    expire_booked(log, raised, cfg, seq, index, t)
+    expire_booked(log, raised, cfg, before.stamp_seq, index, t)
 }
 
 // The first message leaves, then acts.

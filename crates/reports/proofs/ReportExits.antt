@@ -1,14 +1,15 @@
--- `report_on` and `queue_delivery`: one law for each way out. Assumes nothing.
-use Prim.Native.Nat.{ℕ, max}
+-- `stamp`, `report_on` and `queue_delivery`: one law for each way out. Assumes nothing.
+use Prim.Native.Nat.{ℕ, _+_, max}
 use mathlib.Core.Bool.{true, false}
 use mathlib.Core.List.{List}
 use mathlib.Core.Path.{_≡_}
 use Rattle.numbers.specs.Choice.{pick}
-use Rattle.numbers.specs.Words.{onWord}
+use Rattle.numbers.specs.Words.{fitting, onWord}
+use Rattle.numbers.specs.declared.MaybeU64.{MaybeU64}
 use Rattle.numbers.specs.declared.MaybeU64.the-variants.{None, Some}
 use Rattle.lists.specs.Lists.{pushed}
 use Rattle.book.specs.Rows.{deliveriesRow, deliveriesPut}
-use Rattle.book.specs.With.{withDeliveries, clockLastDeliveryNs}
+use Rattle.book.specs.With.{withSeqs, withDeliveries, seqsStampSeq, clockLastDeliveryNs}
 use Rattle.book.specs.declared.MaybeFill.{MaybeFill}
 use Rattle.book.specs.declared.ReportRec.{ReportRec}
 use Rattle.book.specs.declared.config.Config.{Config}
@@ -18,15 +19,26 @@ use Rattle.book.specs.declared.state.Clock.{Clock}
 use Rattle.book.specs.declared.state.HaltReason.the-variants.{TimeOverflow, CounterOverflow}
 use Rattle.book.specs.declared.state.KernelEvent.the-variants.{Report}
 use Rattle.book.specs.declared.state.KernelState.{KernelState}
+use Rattle.book.specs.declared.state.Seqs.{Seqs}
 use Rattle.models.specs.Rules.{ruleDelay}
 use Rattle.models.specs.declared.latency.Arrival.{Arrival}
 use Rattle.rules.specs.Run as rules
-use Rattle.rules.specs.Report.{delay, delayed, pushDelivery, reported, queueDelivery}
+use Rattle.rules.specs.Report.{stamp, delay, delayed, pushDelivery, reported, queueDelivery}
 use Rattle.reports.specs.Log.{logAt, appendEvent, appendEvents, StepResult, expected, actual}
-use Rattle.reports.specs.Report.{withReport, reportedIn, withQueue, queuedIn}
+use Rattle.reports.specs.Report.{stampedIn, withReport, reportedIn, withQueue, queuedIn}
 use Rattle.reports.specs.declared.Outcome.the-variants.{Ran, Halt}
 use Rattle.reports.specs.declared.report.Reported.{Reported}
 use Rattle.reports.proofs.Then.{Stopped, then-stop, then-on}
+
+-- ---- a stamp
+module _ (q : Seqs) (next : MaybeU64) (e : next ≡ fitting (q .«stamp_seq» + 1)) where
+  pub stamp-full : next ≡ None → (s : KernelState) (n : ℕ) (w : List ℕ) → actual (stampedIn s n (record { outcome = Halt CounterOverflow; seqs = q })) w ≡ expected (logAt w n) (stamp (withSeqs s q))
+  unfolding stamp onWord expected appendEvents
+  stamp-full h s n w = rw (← e, h)
+
+  pub stamp-taken : (m : ℕ) → next ≡ Some m → (s : KernelState) (n : ℕ) (w : List ℕ) → actual (stampedIn s n (record { outcome = Ran; seqs = seqsStampSeq q m })) w ≡ expected (logAt w n) (stamp (withSeqs s q))
+  unfolding stamp onWord expected appendEvents
+  stamp-taken m h s n w = rw (← e, h)
 
 -- ---- a report whose event is raised
 module _ (w : List ℕ) (raised : ℕ) (cfg : Config) (report : ReportRec) (rng : ℕ) (clock : Clock)

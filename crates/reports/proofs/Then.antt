@@ -8,25 +8,28 @@ use mathlib.Core.Option.{none, some}
 use native.Mathlib.Omega.{arith}
 use types.Run.{OneOf}
 use denote.Enum.Declared.{tagOf}
-use Rattle.numbers.specs.Words.{fits, fitting, onWord}
+use Rattle.numbers.specs.Words.{fits, fitting}
 use Rattle.numbers.specs.declared.MaybeU64.{MaybeU64}
 use Rattle.numbers.specs.declared.MaybeU64.the-variants.{None, Some}
 use Rattle.lists.specs.Lists.{Row, Taken, onSome}
 use Rattle.lists.proofs.Cases.{pick-case}
-use Rattle.book.specs.With.{withSeqs, seqsStampSeq}
+use Rattle.book.specs.With.{withSeqs}
 use Rattle.book.specs.declared.MaybeFill.the-variants as fill
 use Rattle.book.specs.declared.ReportRec.{ReportRec}
 use Rattle.book.specs.declared.config.Config.{Config}
 use Rattle.book.specs.declared.state.HaltReason.{HaltReason}
-use Rattle.book.specs.declared.state.HaltReason.the-variants.{CounterOverflow}
 use Rattle.book.specs.declared.state.KernelEvent.{KernelEvent}
 use Rattle.book.specs.declared.state.KernelState.{KernelState}
+use Rattle.book.specs.declared.state.Seqs.{Seqs}
 use Rattle.rules.specs.Run as rules
 use Rattle.rules.specs.Report.{stamp, queueDelivery}
-use Rattle.reports.specs.Log.{Log, logAt, appendEvent, appendEvents, outcomeOf, StepResult, expected, actual}
+use Rattle.rules.proofs.Cases.{word-case}
+use Rattle.reports.specs.Log.{Log, logAt, appendEvent, appendEvents, outcomeOf, StepResult, expected, actual, stampedAt}
+use Rattle.reports.specs.Report.{stampedIn}
 use Rattle.reports.specs.declared.Outcome.{Outcome}
 use Rattle.reports.specs.declared.Outcome.the-variants.{Ran, Halt}
 use Rattle.reports.specs.declared.Step.{Step}
+use Rattle.reports.specs.declared.report.Stamped.{Stamped}
 use Rattle.reports.proofs.Append.{appended-append}
 
 -- ---- a step that is known
@@ -94,16 +97,6 @@ raise-on l e s k m h p = p ∙ (ap (λ (g : Log). expected g (k s)) h ∙ sym (r
 pub sent : (l : Log) (cfg : Config) (s : KernelState) {r q : ReportRec} → r ≡ q → {x : StepResult} → x ≡ expected l (queueDelivery cfg r fill.None s) → x ≡ expected l (queueDelivery cfg q fill.None s)
 sent l cfg s h p = p ∙ ap (λ (r : ReportRec). expected l (queueDelivery cfg r fill.None s)) h
 
--- ---- a stamp, then k: `next` is what the code has for the next number
-module _ (l : Log) (s : KernelState) (k : KernelState → rules.Run) (next : MaybeU64) (e : next ≡ fitting (s .seqs .«stamp_seq» + 1)) where
-  pub stamp-on : {n : ℕ} → next ≡ Some n → {x : StepResult} → x ≡ expected l (k (withSeqs s (seqsStampSeq (s .seqs) n))) → x ≡ expected l (rules.andThen (stamp s) k)
-  unfolding stamp onWord rules.andThen
-  stamp-on h p = rw (← e, h) p
-
-  pub stamp-full : next ≡ None → record { outcome = Halt CounterOverflow; state = s; log = l } ≡ expected l (rules.andThen (stamp s) k)
-  unfolding stamp onWord rules.andThen expected appendEvents
-  stamp-full h = rw (← e, h)
-
 -- ---- an entry that comes out of a list, then k: q is what the code has of it
 module _ {A : Type 0} (l : Log) (p : Taken A) (k : A → Row A → rules.Run) (z : rules.Run) (q : Taken A) (e : q ≡ p) where
   pub take-on : {y : A} → q .got ≡ some y → {x : StepResult} → x ≡ expected l (k y (q .list)) → x ≡ expected l (rules.taking p k z)
@@ -123,6 +116,30 @@ module _ (l : Log) (r : rules.Run) (a : Step) (w : List ℕ) (e : actual a w ≡
   pub ran-too : a .outcome ≡ Ran → r .outcome ≡ rules.ran
   unfolding expected
   ran-too h = only-ran (r .outcome) (sym (ap (λ (x : StepResult). x .outcome) e) ∙ h)
+
+-- ---- a stamp, then k
+-- what `stamp` gives of the sequence numbers q
+abbrev pub Stamps : Seqs → Stamped → Type 0
+Stamps q a = (s : KernelState) (n : ℕ) (w : List ℕ) → actual (stampedIn s n a) w ≡ expected (logAt w n) (stamp (withSeqs s q))
+
+module _ (w : List ℕ) (n : ℕ) (s : KernelState) (k : KernelState → rules.Run) (a : Stamped) (e : Stamps (s .seqs) a) where
+  pub stamp-stop : Stopped (a .outcome) → actual (stampedIn s n a) w ≡ expected (logAt w n) (rules.andThen (stamp s) k)
+  stamp-stop m = then-stop (logAt w n) (stamp s) k (stampedIn s n a) w (e s n w) m
+
+  pub stamp-on : a .outcome ≡ Ran → {x : StepResult} → x ≡ expected (logAt w n) (k (withSeqs s (a .seqs))) → x ≡ expected (logAt w n) (rules.andThen (stamp s) k)
+  stamp-on h p = then-on (logAt w n) (stamp s) k (stampedIn s n a) w (e s n w) h p
+
+  -- the state at the stamp, from the state after it
+  stamped-at : stampedAt (s .seqs .«stamp_seq») (withSeqs s (a .seqs)) ≡ s
+  unfolding stamp
+  stamped-at =
+      let P : KernelState → Type 0 = λ t. stampedAt (s .seqs .«stamp_seq») t ≡ s in
+      subst P (sym (state-is (logAt w n) (stamp s) (stampedIn s n a) w (e s n w))) (word-case (λ (r : rules.Run). P (r .state)) (fitting (s .seqs .«stamp_seq» + 1)) _ _ (λ _ _. refl) (λ _. refl))
+
+  -- the same where k comes to f of the state at the stamp
+  pub stamp-at : a .outcome ≡ Ran → (f : KernelState → rules.Run) → f s ≡ k (withSeqs s (a .seqs))
+      → {x : StepResult} → x ≡ expected (logAt w n) (f (stampedAt (s .seqs .«stamp_seq») (withSeqs s (a .seqs)))) → x ≡ expected (logAt w n) (rules.andThen (stamp s) k)
+  stamp-at h f g p = stamp-on h (p ∙ ap (expected (logAt w n)) (ap f stamped-at ∙ g))
 
 -- ---- a sum that fits, and one that does not
 pub fits-none : (n : ℕ) → fitting n ≡ None → fits n ≡ false

@@ -1,6 +1,6 @@
--- The parts of the state that a report and its delivery change.
+-- The parts of the state that a stamp, a report and its delivery change.
 use Prim.Native.Nat.{ℕ}
-use Rattle.book.specs.With.{withClock, withRngLatency, withDeliveries}
+use Rattle.book.specs.With.{withClock, withRngLatency, withSeqs, withDeliveries}
 use Rattle.book.specs.declared.deliveries.Deliveries.{Deliveries}
 use Rattle.book.specs.declared.state.Clock.{Clock}
 use Rattle.book.specs.declared.state.KernelState.{KernelState}
@@ -8,6 +8,10 @@ use Rattle.rules.specs.Run.{raised}
 use Rattle.reports.specs.declared.Step.{Step}
 use Rattle.reports.specs.declared.report.Queued.{Queued}
 use Rattle.reports.specs.declared.report.Reported.{Reported}
+use Rattle.reports.specs.declared.report.Stamped.{Stamped}
+
+abbrev pub stampedIn : KernelState → ℕ → Stamped → Step
+stampedIn s n a = record { outcome = a .outcome; state = withSeqs s (a .seqs); raised = n }
 
 abbrev pub withReport : KernelState → ℕ → Clock → KernelState
 withReport s g c = withClock (withRngLatency s g) c

@@ -14,15 +14,26 @@ use book::state::Clock;
 use book::state::HaltReason;
 use book::state::KernelEvent;
 use book::state::KernelState;
+use book::state::Seqs;
 use models::latency::delayed;
 use numbers::MaybeU64;
+use numbers::words::checked_add;
 use numbers::words::max;
 ghost use mathlib.Core.Path.{_≡_};
+ghost use mathlib.Core.List.{List};
+ghost use Prim.Native.Nat.{ℕ};
 ghost use Rattle.book.specs.declared.state.KernelState.{KernelState};
 ghost use Rattle.book.specs.declared.MaybeFill.the-variants.{None};
-ghost use Rattle.rules.specs.Report.{reportAt, reported, queueDelivery};
+ghost use Rattle.book.specs.With.{withSeqs};
+ghost use Rattle.rules.specs.Report.{stamp, reportAt, reported, queueDelivery};
 ghost use Rattle.reports.specs.Log.{logAt, expected, actual};
-ghost use Rattle.reports.specs.Report.{reportedIn, withReport, queuedIn, withQueue};
+ghost use Rattle.reports.specs.Report.{stampedIn, reportedIn, withReport, queuedIn, withQueue};
+
+// What a stamp changes.
+pub struct Stamped {
+    pub outcome: Outcome,
+    pub seqs: Seqs,
+}
 
 // What a report changes: the clock's `last_delivery_ns` is the time of its delivery.
 pub struct Reported {
@@ -39,6 +50,23 @@ pub struct Queued {
     pub clock: Clock,
     pub deliveries: Deliveries,
     pub raised: u64,
+}
+
+// A stamp takes a number: it is read off the sequence numbers before this.
+pub fn stamp(seqs: Seqs) -> Stamped
+    ensures { λ r. ⌜ ((s : KernelState) (n : ℕ) (w : List ℕ) → actual (stampedIn s n r) w ≡ expected (logAt w n) (stamp (withSeqs s seqs))) ⌝ }
+{
+    let next = checked_add(seqs.stamp_seq, 1);
+    let MaybeU64::Some(stamp_seq) = next else {
+        let outcome = Outcome::Halt(HaltReason::CounterOverflow);
+        return Stamped { outcome, seqs };
+    };
+    let mut risen = seqs;
+    risen.stamp_seq = stamp_seq;
+    Stamped {
+        outcome: Outcome::Ran,
+        seqs: risen,
+    }
 }
 
 // The report on an order, stamped (ts_ns, seq).

@@ -30,8 +30,8 @@ use Rattle.rules.specs.Report.{stamp, delayed, pushDelivery, reported, q
 use Rattle.rules.specs.Messages.{release, await, awaitMarked, book, schedule, removeExpiry, scheduleExpiry, accept, reject, activate, activation, cancelBooked, onActivation, cancelPending, cancelAwaiting, cancel, expireBooked, expire, acts, applyNextMsg}
 use Rattle.rules.specs.Delivery.{countFill, moveAgent, countReject, deliverNext}
 use Rattle.rules.specs.Events.{popObservation, Class, venue, delivery, observation, Next, nothing, next, dueBy, nextMsg, nextDelivery, nextObservation, sooner, nextOf, clockTo, handle, turnOn, eventTurn, extraKind, extra, weight, runEvents}
-use Rattle.rules.proofs.Loop.{run-again, run-last}
-use Rattle.rules.proofs.Within.{Within, ran-in, raised-in, halt-in, left-in, pick-in, some-in, word-in, moved-in, taking-in, putting-in, ran-out, then-in, map-in, runOf, iter-in}
+use Rattle.rules.proofs.Loop.{runOf, run-again, run-last}
+use Rattle.rules.proofs.Within.{Within, ran-in, raised-in, halt-in, left-in, pick-in, some-in, word-in, moved-in, taking-in, putting-in, ran-out, then-in, map-in, iter-in}
 
 -- Of n events that may follow, j are kept back; the weight, times 3, is paid for by the others: a report and its delivery cost 4, an expiry 6.
 -- x and p are the cursor and the phase, and no more than h orders are booked.

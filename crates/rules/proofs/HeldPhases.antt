@@ -9,7 +9,8 @@ use Rattle.book.specs.declared.state.Phase.{Phase}
 use Rattle.book.specs.declared.state.Phase.the-variants.{BeforeMatch, ObsQueued, AwaitDecision, Terminal}
 use Rattle.rules.specs.Events.{popObservation, Class, venue, delivery, observation, Next, nothing, next, nextOf, handle, turnOn, eventTurn, runEvents}
 use Rattle.rules.specs.Phases.{queueObservation, matchPhase, beforeMatch, settleRow, settle, nextRow, obsQueued, onPhase, phaseTurn, phases}
-use Rattle.rules.proofs.Kept.{ran-kept, raised-kept, halt-kept, left-kept, pick-kept, some-kept, word-kept, taking-kept, putting-kept, then-kept, kept-map, runOf, iter-kept}
+use Rattle.rules.proofs.Loop.{runOf}
+use Rattle.rules.proofs.Kept.{ran-kept, raised-kept, halt-kept, left-kept, pick-kept, some-kept, word-kept, taking-kept, putting-kept, then-kept, kept-map, iter-kept}
 use Rattle.rules.proofs.Steps.{delayed-kept}
 use Rattle.rules.proofs.Held.{Inv, Good}
 use Rattle.rules.proofs.HeldMessages.{apply-good}

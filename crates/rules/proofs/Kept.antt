@@ -18,6 +18,7 @@ use Rattle.book.specs.declared.state.KernelEvent.{KernelEvent}
 use Rattle.book.specs.declared.state.KernelState.{KernelState}
 use Rattle.rules.specs.Run.{Outcome, Run, ran, left, halt, ended, ranTo, raised, haltAt, onRan, after, andThen, putting, taking, Turn, again, last, onTurn, iter}
 use Rattle.rules.proofs.Cases.{word-case}
+use Rattle.rules.proofs.Loop.{runOf}
 
 abbrev pub KeptAt : (KernelState → Type 0) → (List VenueMsg → KernelState → Type 0) → (KernelState → Type 0) → Outcome → KernelState → Type 0
 KeptAt L E P ran s = P s
@@ -112,10 +113,6 @@ module _ {L : KernelState → Type 0} {E : List VenueMsg → KernelState → Typ
       go (ended ms) g = g
 
 -- ---- a loop keeps what each turn keeps, whatever its fuel
-abbrev pub runOf : Turn → Run
-runOf (again r) = r
-runOf (last r) = r
-
 module _ {L : KernelState → Type 0} {E : List VenueMsg → KernelState → Type 0} (P : KernelState → Type 0) where
   pub iter-kept : (step : KernelState → Turn) → ((s : KernelState) → P s → Kept L E P (runOf (step s))) → (n : ℕ) (s : KernelState) → P s → Kept L E P (iter step n s)
   unfolding iter

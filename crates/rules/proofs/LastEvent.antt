@@ -41,7 +41,7 @@ use Rattle.rules.specs.Phases.{queueObservation, matchPhase, beforeMatch
 use Rattle.rules.specs.Calls.{Did, refused, stays, halts, ends, Answer, answerOn, answer, advance, pass}
 use Rattle.rules.specs.Conservation.{Each}
 use Rattle.rules.proofs.Cases.{word-case}
-use Rattle.rules.proofs.Kept.{runOf}
+use Rattle.rules.proofs.Loop.{runOf}
 
 -- ---- the claim
 -- an event that is neither 6, end of data, nor 7, halted

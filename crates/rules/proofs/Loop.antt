@@ -1,9 +1,14 @@
--- A loop whose turns make a weight fall: its fuel never runs out. Assumes nothing.
+-- A loop: the run of a turn, and that its fuel never runs out where its turns make a weight fall. Assumes nothing.
 use Prim.Native.Nat.{ℕ, zero, suc, _<_}
 use mathlib.Core.Path.{_≡_, refl, ap}
 use native.Mathlib.Omega.{arith}
 use Rattle.book.specs.declared.state.KernelState.{KernelState}
 use Rattle.rules.specs.Run.{Outcome, Run, ran, left, halt, ended, onRan, after, andThen, Turn, again, last, onTurn, iter}
+
+-- the run of a turn, the last or not
+abbrev pub runOf : Turn → Run
+runOf (again r) = r
+runOf (last r) = r
 
 module _ (step : KernelState → Turn) (w : KernelState → ℕ) (falls : (s : KernelState) (r : Run) → step s ≡ again r → r .outcome ≡ ran → w (r .state) < w s) where
   same-then : (r : Run) (k j : KernelState → Run) → (r .outcome ≡ ran → k (r .state) ≡ j (r .state)) → andThen r k ≡ andThen r j

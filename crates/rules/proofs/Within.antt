@@ -23,6 +23,7 @@ use Rattle.book.specs.declared.state.HaltReason.the-variants.{CounterOverflow}
 use Rattle.book.specs.declared.state.KernelEvent.{KernelEvent}
 use Rattle.book.specs.declared.state.KernelState.{KernelState}
 use Rattle.rules.specs.Run.{Outcome, Run, ran, left, halt, ended, ranTo, raised, haltAt, onRan, after, andThen, putting, taking, Turn, again, last, onTurn, iter}
+use Rattle.rules.proofs.Loop.{runOf}
 
 pub word-case : {A : Type 0} (P : A → Type 0) (w : MaybeU64) (k : ℕ → A) (z : A) → ((q : ℕ) → P (k q)) → P z → P (onWord w k z)
 unfolding onWord
@@ -113,10 +114,6 @@ module _ {P Q : ℕ → KernelState → Type 0} {n : ℕ} where
       go (ended ms) e = record { rest = h .rest; few = h .few; kept = rw e tt }
 
 -- ---- a loop keeps what each turn keeps, whatever its fuel
-abbrev pub runOf : Turn → Run
-runOf (again r) = r
-runOf (last r) = r
-
 pub iter-in : {P : ℕ → KernelState → Type 0} (step : KernelState → Turn) → ((n : ℕ) (s : KernelState) → P n s → Within n P (runOf (step s)))
     → (fuel n : ℕ) (s : KernelState) → P n s → Within n P (iter step fuel s)
 unfolding iter

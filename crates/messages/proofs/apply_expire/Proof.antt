@@ -1,5 +1,5 @@
 -- `messages::apply_expire` meets its contract. Assumes nothing.
-use Rattle.messages.proofs.CancelExits.{expire-unbooked, expire-full, expire-found}
+use Rattle.messages.proofs.CancelExits.{expire-unbooked, expire-unstamped, expire-found}
 use borrow.Author.Needs.{needs}
 use Rattle.messages.proofs.apply_expire.Statement.{statement}
 use Rattle.messages.proofs.apply_expire.Tie as tie
@@ -10,15 +10,16 @@ apply-expire-spec =
     (λ c κs. search needs)
     (λ c. search needs)
     (λ c. search needs)
-    (λ c. expire-unbooked _ _ _ _ _ (c .before .before .booked .result) (c .before .before .booked .ensures) (c .enum-told .given .1))
+    (λ c. let b = c .before .before in let z = b .before .before .before in
+    expire-unbooked _ _ _ (z .args .cfg) (z .args .s) (b .booked .result) (b .booked .ensures) (c .enum-told .given .1))
     (λ c κs. search needs)
     (λ c. search needs)
-    (λ c. search needs)
-    (λ c. let b = c .before .before .before .before in let d = b .before .before in
-    expire-full _ _ _ _ _ (d .booked .result) (d .booked .ensures) _ (b .booked2 .given .1) (c .before .before .checked-add .result)
-    (c .before .before .checked-add .ensures) (c .enum-told2 .given .1))
+    (λ c. let b = c .before .before in let d = b .before .before .before in let e = d .before .before in let z = e .before .before .before in
+    expire-unstamped _ _ _ (z .args .cfg) (z .args .s) (e .booked .result) (e .booked .ensures) _ (d .booked2 .given .1) (b .stamp .result) (b .stamp .ensures)
+    (c .match2 .keys2))
     (λ c κs. search needs)
     (λ c. search needs)
-    (λ c. let b = c .before .before .before .before .before .before in let d = b .before .before in let e = d .before .before in let f = e .before .before in
-    expire-found _ _ _ _ _ (f .booked .result) (f .booked .ensures) _ (e .booked2 .given .1) (d .checked-add .result) (d .checked-add .ensures) _
-    (b .next .given .1) (c .before .before .expire-booked .ensures)))
+    (λ c. let b = c .before .before .before .before in let d = b .before .before .before in let e = d .before .before .before in let f = e .before .before in
+    let z = f .before .before .before in
+    expire-found _ _ _ (z .args .cfg) (z .args .s) (f .booked .result) (f .booked .ensures) _ (e .booked2 .given .1) (d .stamp .result) (d .stamp .ensures)
+    (b .enum-told2 .given .1) (c .before .before .expire-booked .ensures)))

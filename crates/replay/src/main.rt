@@ -48,7 +48,7 @@ fn print_turn(
     stopped
 }
 
-// The log is 512 records, and the text has room for their lines. A proved loop has to end, so its turns count down, from more than any run has: each turn but the last raises `step`.
+// The log is 512 records, and the text has room for their lines. A proved loop has to end, so its turns count down, from more than any run has: each turn but the last pauses at a row's observation, and a run file has at most 512 rows.
 fn run(cfg: Config, rows: &[u64], start: KernelState) {
     let mut words = [0u64; 6144];
     let log: &mut [u64] = &mut words;

@@ -13,7 +13,7 @@ use Rattle.lines.specs.Print.{callText, filledAfter, lastLine}
 use Rattle.day.specs.declared.Turned.{Turned}
 
 -- what a turn leaves: whether the run goes on, the state, the sum of the printed fill reports, the log, and the text of what it prints
-pub record Turn : Type 0 where
+pub record TurnResult : Type 0 where
   pub more : Bool
   pub state : KernelState
   pub filled : ℕ
@@ -21,18 +21,18 @@ pub record Turn : Type 0 where
   pub text : Text
 
 -- a turn of a call that raised n events, whose log this is
-abbrev pub turnOf : Bool → KernelState → ℕ → List ℕ → ℕ → List ℕ → Turn
+abbrev pub turnOf : Bool → KernelState → ℕ → List ℕ → ℕ → List ℕ → TurnResult
 turnOf more s filled log n out = record { more = more; state = s; filled = filledAfter filled log n; log = log; text = texted (textAt out 0) (callText log n) }
 
 -- "passes until Terminal": the run ends at Terminal, else it goes on behind a pass that is not refused
-unfoldable pub passedOn : KernelState → ℕ → List ℕ → ℕ → List ℕ → Turn
+unfoldable pub passedOn : KernelState → ℕ → List ℕ → ℕ → List ℕ → TurnResult
 passedOn s filled log n out =
     pick (isTerminalPhase (s .control .phase))
     (turnOf false s filled log n out)
     (turnOf (eqb (calls.refusalOf (calls.pass s .did)) 0) (calls.pass s .state) filled log n out)
 
 -- "It advances and passes": the events of the advance are what is printed, one line each
-unfoldable pub turned : Config → List ℕ → KernelState → ℕ → List ℕ → List ℕ → Turn
+unfoldable pub turned : Config → List ℕ → KernelState → ℕ → List ℕ → List ℕ → TurnResult
 turned c rows s filled log out =
     let a : calls.Result = calls.returned log (calls.advance c rows s) in
     passedOn (a .state) filled (a .log) (a .count) out
@@ -44,7 +44,7 @@ printedBy c rows s log =
     callText (a .log) (a .count)
 
 -- what the code hands back, with the log and the bytes that it was lent
-abbrev pub actualTurn : Turned → List ℕ → List ℕ → Turn
+abbrev pub actualTurn : Turned → List ℕ → List ℕ → TurnResult
 actualTurn t log out = record { more = t .more; state = t .state; filled = t .filled; log = log; text = textAt out (t .length) }
 
 -- "Last: venue position, live buy and sell, and the summed qty of printed fill reports."

@@ -9,13 +9,13 @@ use Rattle.book.specs.declared.config.Config.{Config}
 use Rattle.book.specs.declared.state.KernelState.{KernelState}
 use Rattle.lines.specs.Print.{badLine}
 use Rattle.runtext.specs.Read.{Read, readText}
-use Rattle.day.specs.Day.{Turn, turned, printedBy, lastOf}
+use Rattle.day.specs.Day.{TurnResult, turned, printedBy, lastOf}
 
 -- "It advances and passes until Terminal", then the last line. At most so many turns: from step 0 a run has at most 2^64, and of 512 rows at most 513, since each turn but the last pauses at a row's observation
 unfoldable pub runFrom : ℕ → Config → List ℕ → KernelState → ℕ → List ℕ → List ℕ → List ℕ
 runFrom zero c rows s filled log out = lastOf s filled
 runFrom (suc n) c rows s filled log out =
-    let t : Turn = turned c rows s filled log out in
+    let t : TurnResult = turned c rows s filled log out in
     printedBy c rows s log ++ pick (t .more) (runFrom n c rows (t .state) (t .filled) (t .log) (t .text .bytes)) (lastOf (t .state) (t .filled))
 
 -- "prints `bad N` .. and nothing else"

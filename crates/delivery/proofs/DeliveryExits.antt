@@ -104,11 +104,11 @@ module _ (report : ReportRec) (agent : AgentView) (rejected : Bool) (r : rejecte
 
 -- ---- hand
 -- what follows the agent's move, and the count
-abbrev closes : ReportRec → KernelState → rules.Run
-closes r v = rules.ranTo (withAccount v (onDelivery r (v .account)))
+abbrev accountAfter : ReportRec → KernelState → rules.Run
+accountAfter r v = rules.ranTo (withAccount v (onDelivery r (v .account)))
 
 abbrev counts : ReportRec → KernelState → rules.Run
-counts r u = rules.andThen (countReject r u) (closes r)
+counts r u = rules.andThen (countReject r u) (accountAfter r)
 
 abbrev moves : Delivery → KernelState → rules.Run
 moves d t = rules.andThen (moveAgent (d .fill) t) (counts (d .report))
@@ -135,13 +135,13 @@ module _ (w : List ℕ) (n : ℕ) (d : Delivery) (agent : AgentView) (account : 
         → actual (deliveryStepIn s (record { outcome = b .outcome; agent = b .agent; account = account; raised = m })) w1 ≡ expected (logAt w n) (deliver d (withDelivered s agent account))
     deliver-uncounted q s =
         let u : KernelState = withDelivered s (a .agent) account in
-        moved-on s (then-stop (logAt w1 m) (countReject (d .report) u) (closes (d .report)) (agentIn u m b) w1 (mb u m w1) q)
+        moved-on s (then-stop (logAt w1 m) (countReject (d .report) u) (accountAfter (d .report)) (agentIn u m b) w1 (mb u m w1) q)
 
     pub deliver-done : (entries : AgentAccount) → b .outcome ≡ Ran → entries ≡ onDelivery (d .report) account → (s : KernelState)
         → actual (deliveryStepIn s (record { outcome = Ran; agent = b .agent; account = entries; raised = m })) w1 ≡ expected (logAt w n) (deliver d (withDelivered s agent account))
     deliver-done entries q e s =
         let u : KernelState = withDelivered s (a .agent) account in
-        moved-on s (then-on (logAt w1 m) (countReject (d .report) u) (closes (d .report)) (agentIn u m b) w1 (mb u m w1) q
+        moved-on s (then-on (logAt w1 m) (countReject (d .report) u) (accountAfter (d .report)) (agentIn u m b) w1 (mb u m w1) q
         (rw e (expected-ran (logAt w1 m) (withDelivered s (b .agent) (onDelivery (d .report) account)))))
 
 -- ---- the first delivery

@@ -69,10 +69,10 @@ pub record LastEvent (a : Answer) : Type 0 where
   pub plain : Each Plain front
   pub behind : Behind (a .did) front (a .events)
 
-unfoldable pub lastOf : {A : Type 0} → List A → Option A
-lastOf [] = none
-lastOf (x ∷ []) = some x
-lastOf (x ∷ y ∷ l) = lastOf (y ∷ l)
+unfoldable pub lastIn : {A : Type 0} → List A → Option A
+lastIn [] = none
+lastIn (x ∷ []) = some x
+lastIn (x ∷ y ∷ l) = lastIn (y ∷ l)
 
 -- ---- of a run
 abbrev SignalsAt : Outcome → List KernelEvent → Type 0
@@ -335,14 +335,14 @@ pass-last-event s =
     (λ _. silent refl)
 
 -- ---- both ways, by the last event
-last-behind : {A : Type 0} (l : List A) (x : A) → lastOf (l ++ x ∷ []) ≡ some x
-unfolding lastOf
+last-behind : {A : Type 0} (l : List A) (x : A) → lastIn (l ++ x ∷ []) ≡ some x
+unfolding lastIn
 last-behind [] x = refl
 last-behind (y ∷ []) x = refl
 last-behind (y ∷ z ∷ l) x = last-behind (z ∷ l) x
 
-last-plain : (l : List KernelEvent) → Each Plain l → (e : KernelEvent) → lastOf l ≡ some e → Plain e
-unfolding lastOf Each
+last-plain : (l : List KernelEvent) → Each Plain l → (e : KernelEvent) → lastIn l ≡ some e → Plain e
+unfolding lastIn Each
 last-plain [] h e p = absurd (nothing-there p)
   where
     nothing-there : none ≡ some e → ⊥
@@ -354,10 +354,10 @@ apart : _≡_ {A = ℕ} 0 1 → ⊥
 apart z = absurd (omega arith)
 
 -- "halts h" exactly where the last event is `Halted h`
-pub halted-last : (a : Answer) → LastEvent a → (h : HaltReason) → (a .did ≡ halts h) ↔ (lastOf (a .events) ≡ some (Halted h))
+pub halted-last : (a : Answer) → LastEvent a → (h : HaltReason) → (a .did ≡ halts h) ↔ (lastIn (a .events) ≡ some (Halted h))
 halted-last a t h = go (a .did) (a .events) (t .behind)
   where
-    go : (d : Did) (es : List KernelEvent) → Behind d (t .front) es → (d ≡ halts h) ↔ (lastOf es ≡ some (Halted h))
+    go : (d : Did) (es : List KernelEvent) → Behind d (t .front) es → (d ≡ halts h) ↔ (lastIn es ≡ some (Halted h))
     go (refused r) es q = ((λ p. absurd (apart (cc))), (λ p. absurd (last-plain (t .front) (t .plain) (Halted h) (rw q at p))))
     go stays es q = ((λ p. absurd (apart (cc))), (λ p. absurd (last-plain (t .front) (t .plain) (Halted h) (rw q at p))))
     go (halts k) es q = ((λ p. rw (q, last-behind (t .front) (Halted k)) (cc)), (λ p. let e : some (Halted k) ≡ some (Halted h) = rw (q, last-behind (t .front) (Halted k)) at p in cc))
@@ -365,10 +365,10 @@ halted-last a t h = go (a .did) (a .events) (t .behind)
         ((λ p. absurd (apart (cc))), (λ p. let e : some (EndOfData (q .0) (q .1)) ≡ some (Halted h) = rw (q .2, last-behind (t .front) (EndOfData (q .0) (q .1))) at p in absurd (apart (cc))))
 
 -- "ends" exactly where the last event is `EndOfData`
-pub ended-last : (a : Answer) → LastEvent a → ((dropped : List VenueMsg) × (a .did ≡ ends dropped)) ↔ ((m : ℕ) × (n : ℕ) × (lastOf (a .events) ≡ some (EndOfData m n)))
+pub ended-last : (a : Answer) → LastEvent a → ((dropped : List VenueMsg) × (a .did ≡ ends dropped)) ↔ ((m : ℕ) × (n : ℕ) × (lastIn (a .events) ≡ some (EndOfData m n)))
 ended-last a t = go (a .did) (a .events) (t .behind)
   where
-    go : (d : Did) (es : List KernelEvent) → Behind d (t .front) es → ((dropped : List VenueMsg) × (d ≡ ends dropped)) ↔ ((m : ℕ) × (n : ℕ) × (lastOf es ≡ some (EndOfData m n)))
+    go : (d : Did) (es : List KernelEvent) → Behind d (t .front) es → ((dropped : List VenueMsg) × (d ≡ ends dropped)) ↔ ((m : ℕ) × (n : ℕ) × (lastIn es ≡ some (EndOfData m n)))
     go (refused r) es q = ((λ p. let e = p .1 in absurd (apart (cc))), (λ p. absurd (last-plain (t .front) (t .plain) (EndOfData (p .0) (p .1)) (rw q at (p .2)))))
     go stays es q = ((λ p. let e = p .1 in absurd (apart (cc))), (λ p. absurd (last-plain (t .front) (t .plain) (EndOfData (p .0) (p .1)) (rw q at (p .2)))))
     go (halts k) es q =

@@ -27,7 +27,7 @@ use Rattle.book.specs.declared.VenueOrder.{VenueOrder}
 use Rattle.book.specs.declared.msgs.Msgs.{Msgs}
 use Rattle.text.specs.Fields.{is, parted, fields}
 use Rattle.runtext.specs.Lines.{lineOf}
-use Rattle.runtext.specs.Read.{reserved, marked, markedKind, markedIn, inFlight, takeLine, took, blankReading, Read, readText, isEmpty, closing, badAfter, readWith, scriptOf, onTook, readParts}
+use Rattle.runtext.specs.Read.{reserved, marked, markedKind, markedIn, inFlight, takeLine, lineTaken, blankReading, Read, readText, isEmpty, closing, badAfter, readWith, scriptOf, onLineTaken, readParts}
 use Rattle.runtext.specs.declared.line.Line.{Line}
 use Rattle.runtext.specs.declared.read.Lots.{Lots}
 use Rattle.runtext.specs.declared.read.Reserved.the-variants.{None, Some}
@@ -155,8 +155,8 @@ module _ (text : List ℕ) (at end n : ℕ) (r : Reading) (w : List ℕ) (is-end
         let z : length text ≤ at = omega arith in
         rw (last-part, drop-of-length-le text z, le-ltb n 2 m)
 
-  module _ (h : end < length text) (l : Line) (e : l ≡ lineOf (fields (take (end - at) (drop at text)))) (t : Taken) (v : List ℕ) (f : took t v ≡ takeLine n l r w) where
-    next-part : readParts n r w (parted 10 (drop at text)) ≡ onTook n r (took t v) (λ s u. readParts (n + 1) s u (parted 10 (drop (end + 1) text)))
+  module _ (h : end < length text) (l : Line) (e : l ≡ lineOf (fields (take (end - at) (drop at text)))) (t : Taken) (v : List ℕ) (f : lineTaken t v ≡ takeLine n l r w) where
+    next-part : readParts n r w (parted 10 (drop at text)) ≡ onLineTaken n r (lineTaken t v) (λ s u. readParts (n + 1) s u (parted 10 (drop (end + 1) text)))
     unfolding readParts pick
     next-part = rw (part-more 10 text at end is-end h, parts-some 10 (drop (end + 1) text), ← e, ← f)
 

@@ -28,7 +28,7 @@ use Rattle.rules.proofs.Cases.{word-case}
 use Rattle.rules.proofs.Conservation.{conservation}
 use Rattle.text.specs.Fields.{fields}
 use Rattle.runtext.specs.Lines.{onSideField, configLine, nowLine, queueLine, fillModeLine, orderLine, cancelLine, rowLine, lineOf}
-use Rattle.runtext.specs.Read.{blankReading, takeConfig, takeFill, reserved, onReserved, onPut, takeOrder, markedKind, marked, markedIn, takeCancel, Took, takeRow, takeLine, startState, scriptOf, Read, closing, readParts, readText}
+use Rattle.runtext.specs.Read.{blankReading, takeConfig, takeFill, reserved, onReserved, onPut, takeOrder, markedKind, marked, markedIn, takeCancel, LineTaken, takeRow, takeLine, startState, scriptOf, Read, closing, readParts, readText}
 use Rattle.runtext.specs.Start.{GoesOn, GoOn}
 use Rattle.runtext.specs.declared.line.Line.{Line}
 use Rattle.runtext.specs.declared.line.Line.the-variants as line
@@ -213,7 +213,7 @@ line-carried n (line.Fill f) r w u h = pick-case CarriedAfter _ _ _ (λ _. h) (�
 line-carried n (line.Order o life) r w u h = order-carried n o life r u h
 line-carried n (line.Cancel eff id) r w u h = cancel-carried n eff id r h
 line-carried n (line.Row t) r w u h =
-    let P : Took → Type 0 = λ t. Carried (t .reading) in
+    let P : LineTaken → Type 0 = λ t. Carried (t .reading) in
     pick-case P _ _ _ (λ _. h) (λ _. pick-case P _ _ _ (λ _. h) (λ _. h))
 
 -- ---- the state at the start
@@ -242,7 +242,7 @@ parts-start : (n : ℕ) (r : Reading) (w : List ℕ) (ls : List (List ℕ)) → 
 unfolding readParts
 parts-start n r w [] h = closing-starts n r w [] h
 parts-start n r w (l ∷ ls) h =
-    let t : Took = takeLine n (lineOf (fields l)) r w in
+    let t : LineTaken = takeLine n (lineOf (fields l)) r w in
     pick-case Starts _ _ _ (λ _. closing-starts n r w l h)
     (λ _. pick-case Starts _ _ _
     (λ _. parts-start (n + 1) (t .reading) (t .words) ls (line-carried n (lineOf (fields l)) r w (line-unfilled (fields l)) h))

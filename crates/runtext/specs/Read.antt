@@ -85,8 +85,8 @@ unfoldable pub onPut : {A : Type 0} → Put A → (Row A → Taken) → Taken �
 onPut p k z = pick (p .ok) (k (p .list)) z
 
 -- "Messages take numbers from 0 in line order": this one takes the count of those before it
-abbrev pub queued : ℕ → MsgKind → Msgs → Put VenueMsg
-queued eff kind l = putBefore msgsCapacity (isLater eff (l .count)) (record { «eff_ns» = eff; seq = l .count; kind = kind }) (msgsRow l)
+abbrev pub withMsg : ℕ → MsgKind → Msgs → Put VenueMsg
+withMsg eff kind l = putBefore msgsCapacity (isLater eff (l .count)) (record { «eff_ns» = eff; seq = l .count; kind = kind }) (msgsRow l)
 
 -- "accounts opened"
 unfoldable pub takeOrder : ℕ → VenueOrder → ℕ → Reading → Taken
@@ -94,7 +94,7 @@ takeOrder n o life r =
     pick (isMessageDue n (r .rows)) (
     onReserved (reserved (r .lots) (o .side) (o .qty)) (λ lots.
     onPut (pushed accountCapacity (record { «order_id» = o .id; «awaiting_cancel_outcome» = false }) (accountRow (r .account))) (λ account.
-    onPut (queued (o .«active_after_ns») (Activate o life) (r .msgs)) (λ msgs.
+    onPut (withMsg (o .«active_after_ns») (Activate o life) (r .msgs)) (λ msgs.
     good (record { cfg = r .cfg; seed = r .seed; lots = lots; msgs = msgsOf msgs; account = accountOf account; rows = r .rows }))
     (bad r)) (bad r)) (bad r)) (bad r)
 
@@ -116,37 +116,37 @@ markedIn id l = record { slots = map (marked id) (l .slots); count = l .count }
 unfoldable pub takeCancel : ℕ → ℕ → ℕ → Reading → Taken
 takeCancel n eff id r =
     pick (isMessageDue n (r .rows)) (
-    onPut (queued eff (Cancel id) (markedIn id (r .msgs))) (λ msgs.
+    onPut (withMsg eff (Cancel id) (markedIn id (r .msgs))) (λ msgs.
     good (record { cfg = r .cfg; seed = r .seed; lots = r .lots; msgs = msgsOf msgs; account = r .account; rows = r .rows }))
     (bad r)) (bad r)
 
 -- a line that was read, and the words that the rows were read into
-pub record Took : Type 0 where
+pub record LineTaken : Type 0 where
   pub ok : Bool
   pub reading : Reading
   pub words : List ℕ
 
-abbrev pub took : Taken → List ℕ → Took
-took t w = record { ok = t .ok; reading = t .reading; words = w }
+abbrev pub lineTaken : Taken → List ℕ → LineTaken
+lineTaken t w = record { ok = t .ok; reading = t .reading; words = w }
 
 -- the words w, with those of the row behind n others
 abbrev pub rowStored : KernelTick → ℕ → List ℕ → List ℕ
 rowStored t n w = set (set (set (set (set w (n * 5) (t .«ts_ns»)) (n * 5 + 1) (t .bid)) (n * 5 + 2) (t .«bid_lots»)) (n * 5 + 3) (t .ask)) (n * 5 + 4) (t .«ask_lots»)
 
 -- "`r` rows, at most 512"
-unfoldable pub takeRow : ℕ → KernelTick → Reading → List ℕ → Took
+unfoldable pub takeRow : ℕ → KernelTick → Reading → List ℕ → LineTaken
 takeRow n t r w =
-    pick (ltb n 2) (took (bad r) w)
+    pick (ltb n 2) (lineTaken (bad r) w)
     (pick (ltb (r .rows) 512)
-    (took (good (record { cfg = r .cfg; seed = r .seed; lots = r .lots; msgs = r .msgs; account = r .account; rows = r .rows + 1 })) (rowStored t (r .rows) w))
-    (took (bad r) w))
+    (lineTaken (good (record { cfg = r .cfg; seed = r .seed; lots = r .lots; msgs = r .msgs; account = r .account; rows = r .rows + 1 })) (rowStored t (r .rows) w))
+    (lineTaken (bad r) w))
 
-unfoldable pub takeLine : ℕ → Line → Reading → List ℕ → Took
-takeLine n line.Bad r w = took (bad r) w
-takeLine n (line.Config cfg seed) r w = took (takeConfig n cfg seed r) w
-takeLine n (line.Fill f) r w = took (takeFill n f r) w
-takeLine n (line.Order o life) r w = took (takeOrder n o life r) w
-takeLine n (line.Cancel eff id) r w = took (takeCancel n eff id r) w
+unfoldable pub takeLine : ℕ → Line → Reading → List ℕ → LineTaken
+takeLine n line.Bad r w = lineTaken (bad r) w
+takeLine n (line.Config cfg seed) r w = lineTaken (takeConfig n cfg seed r) w
+takeLine n (line.Fill f) r w = lineTaken (takeFill n f r) w
+takeLine n (line.Order o life) r w = lineTaken (takeOrder n o life r) w
+takeLine n (line.Cancel eff id) r w = lineTaken (takeCancel n eff id r) w
 takeLine n (line.Row t) r w = takeRow n t r w
 
 -- ---- the state at the start
@@ -197,13 +197,13 @@ unfoldable pub closing : ℕ → Reading → List ℕ → List ℕ → Read
 closing n r w l = pick (isEmpty l) (pick (ltb n 2) (badAfter n r w) (readWith (scriptOf maybe.None r) w)) (badAfter n r w)
 
 -- k of a line that was read, or "the first bad line"
-abbrev pub onTook : ℕ → Reading → Took → (Reading → List ℕ → Read) → Read
-onTook n r t k = pick (t .ok) (k (t .reading) (t .words)) (badAfter n r (t .words))
+abbrev pub onLineTaken : ℕ → Reading → LineTaken → (Reading → List ℕ → Read) → Read
+onLineTaken n r t k = pick (t .ok) (k (t .reading) (t .words)) (badAfter n r (t .words))
 
 -- the parts of the text between its newlines, behind n lines that were read; the last part stands behind the last newline
 unfoldable pub readParts : ℕ → Reading → List ℕ → List (List ℕ) → Read
 readParts n r w [] = closing n r w []
-readParts n r w (l ∷ ls) = pick (isEmpty ls) (closing n r w l) (onTook n r (takeLine n (lineOf (fields l)) r w) λ s v. readParts (n + 1) s v ls)
+readParts n r w (l ∷ ls) = pick (isEmpty ls) (closing n r w l) (onLineTaken n r (takeLine n (lineOf (fields l)) r w) λ s v. readParts (n + 1) s v ls)
 
 -- "at most 65,536 bytes, newline-ended lines"; "file too long ..: 0"
 unfoldable pub readText : List ℕ → List ℕ → Read

@@ -28,7 +28,7 @@ use numbers::position::Position;
 use numbers::words::checked_add;
 use text::fields::piece_end;
 ghost use mathlib.Core.Path.{_≡_};
-ghost use Rattle.runtext.specs.Read.{blankReading, bad, reserved, marked, markedIn, seeded, startState, isMessageDue, takeConfig, takeFill, takeOrder, takeCancel, takeRow, takeLine, took, scriptOf, readText, readWith};
+ghost use Rattle.runtext.specs.Read.{blankReading, bad, reserved, marked, markedIn, seeded, startState, isMessageDue, takeConfig, takeFill, takeOrder, takeCancel, takeRow, takeLine, lineTaken, scriptOf, readText, readWith};
 
 // The lots of each side, all quantities together within 64 bits.
 pub struct Lots {
@@ -271,7 +271,7 @@ fn take_cancel(n: usize, eff_ns: u64, id: u64, r: Reading) -> Taken
 }
 
 fn take_row(n: usize, tick: KernelTick, r: Reading, rows: &mut [u64; 2560]) -> Taken
-    ensures { λ t. ⌜ took t (now (rows .exit)) ≡ takeRow n tick r (now (rows .entry)) ⌝ }
+    ensures { λ t. ⌜ lineTaken t (now (rows .exit)) ≡ takeRow n tick r (now (rows .entry)) ⌝ }
 {
     if n < 2 {
         return refused(r);
@@ -296,7 +296,7 @@ fn take_row(n: usize, tick: KernelTick, r: Reading, rows: &mut [u64; 2560]) -> T
 
 // The line that stands behind n others.
 fn take_line(n: usize, line: Line, r: Reading, rows: &mut [u64; 2560]) -> Taken
-    ensures { λ t. ⌜ took t (now (rows .exit)) ≡ takeLine n line r (now (rows .entry)) ⌝ }
+    ensures { λ t. ⌜ lineTaken t (now (rows .exit)) ≡ takeLine n line r (now (rows .entry)) ⌝ }
 {
     match line {
         Line::Bad => refused(r),

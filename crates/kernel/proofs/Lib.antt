@@ -1,3 +1,1 @@
-pub mod EventsExits
-pub mod PhasesExits
 pub mod CallsExits

@@ -1,7 +1,4 @@
 // The kernel: `advance` and `pass` (step.rs of the Rust). A state goes in by value and comes back; inside, a function that runs on every row takes the parts that it changes.
-mod events;
-mod phases;
-
 use book::config::Config;
 use book::state::Control;
 use book::state::HaltReason;

@@ -11,15 +11,15 @@ accept-spec =
     (λ c κs. search needs)
     (λ c. search needs)
     (λ c. search needs)
-    (λ c. accept-unsent _ _ _ _ _ _ _ _ _ (c .before .before .before .before .before .status-report .ensures) (c .before .before .before .send .result) (c .before .before .before .send .ensures) (c .match .keys2))
+    (λ c. let a = c .before .before .before .before .before .before .before .args in accept-unsent _ _ _ _ (a .cfg) (a .order) (a .expiry) (a .s) _ (c .before .before .before .before .before .status-report .ensures) (c .before .before .before .send .result) (c .before .before .before .send .ensures) (c .match .keys2))
     (λ c κs. search needs)
     (λ c. search needs)
     (λ c. search needs)
-    (λ c. let b = c .before .before .before .before .before .before in let d = b .before .before in
-    accept-unbooked _ _ _ _ _ _ _ _ _ (d .status-report .ensures) (b .send .result) (b .send .ensures) (c .before .before .enum-told .given .1)
+    (λ c. let a = c .before .before .before .before .before .before .before .before .before .before .args in let b = c .before .before .before .before .before .before in let d = b .before .before in
+    accept-unbooked _ _ _ _ (a .cfg) (a .order) (a .expiry) (a .s) _ (d .status-report .ensures) (b .send .result) (b .send .ensures) (c .before .before .enum-told .given .1)
     (c .before .book-order .result) (c .before .book-order .ensures) (c .match2 .keys2))
     (λ c κs. search needs)
     (λ c. search needs)
-    (λ c. let b = c .before .before .before in let d = b .before in let e = d .before .before .before .before in let f = e .before .before in
-    accept-booked _ _ _ _ _ _ _ _ _ (f .status-report .ensures) (e .send .result) (e .send .ensures) (d .enum-told .given .1) (b .book-order .result)
+    (λ c. let a = c .before .before .before .before .before .before .before .before .before .before .before .before .args in let b = c .before .before .before in let d = b .before in let e = d .before .before .before .before in let f = e .before .before in
+    accept-booked _ _ _ _ (a .cfg) (a .order) (a .expiry) (a .s) _ (f .status-report .ensures) (e .send .result) (e .send .ensures) (d .enum-told .given .1) (b .book-order .result)
     (b .book-order .ensures) (c .before .enum-told2 .given .1) (c .schedule-expiry .result) (c .schedule-expiry .ensures)))

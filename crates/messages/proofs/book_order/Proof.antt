@@ -8,5 +8,5 @@ pub book-order-spec : {M : Type 1} → statement M
 book-order-spec =
     tie.close (tie.spec
     (λ c κs. search needs)
-    (λ c. book-full _ _ _ (c .before .before .push .result) (c .before .before .push .ensures) (c .if1 .taken))
-    (λ c. book-in _ _ _ (c .before .before .before .push .result) (c .before .before .before .push .ensures) (c .before .if1 .left)))
+    (λ c. let a = c .before .before .before .before .args in book-full _ (a .order) (a .s) (c .before .before .push .result) (c .before .before .push .ensures) (c .if1 .taken))
+    (λ c. let a = c .before .before .before .before .before .args in book-in _ (a .order) (a .s) (c .before .before .before .push .result) (c .before .before .before .push .ensures) (c .before .if1 .left)))

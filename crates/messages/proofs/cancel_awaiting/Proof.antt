@@ -10,9 +10,9 @@ cancel-awaiting-spec =
     (λ c κs. search needs)
     (λ c. search needs)
     (λ c. search needs)
-    (λ c. awaiting-none _ _ _ _ _ _ (c .before .before .remove .result) (c .before .before .remove .ensures) (c .enum-told .given .1))
+    (λ c. let a = c .before .before .before .before .before .args in awaiting-none _ _ _ _ (a .cfg) (a .s) (c .before .before .remove .result) (c .before .before .remove .ensures) (c .enum-told .given .1))
     (λ c κs. search needs)
     (λ c κs. search needs)
     (λ c. search needs)
-    (λ c. let b = c .before .before .before .before in let d = b .before .before .before in let e = d .before .before in
-    awaiting-reported _ _ _ _ _ _ (e .remove .result) (e .remove .ensures) _ (d .got .given .1) _ (b .status-report .ensures) (c .before .before .send .ensures)))
+    (λ c. let a = c .before .before .before .before .before .before .before .before .before .before .before .before .args in let b = c .before .before .before .before in let d = b .before .before .before in let e = d .before .before in
+    awaiting-reported _ _ _ _ (a .cfg) (a .s) (e .remove .result) (e .remove .ensures) _ (d .got .given .1) _ (b .status-report .ensures) (c .before .before .send .ensures)))

@@ -11,5 +11,5 @@ release-order-spec =
     (λ c κs. search needs)
     (λ c. search needs)
     (λ c. search needs)
-    (λ c. release-fail _ _ _ _ (c .before .before .release .result) (c .before .before .before .before .remaining .ensures) (c .before .before .release .ensures) (c .enum-told .given .1))
-    (λ c. release-kept _ _ _ _ (c .before .before .before .release .result) (c .before .before .before .before .before .remaining .ensures) (c .before .before .before .release .ensures) (c .before .gated .given .1)))
+    (λ c. let a = c .before .before .before .before .before .args in release-fail _ _ (a .order) (a .s) (c .before .before .release .result) (c .before .before .before .before .remaining .ensures) (c .before .before .release .ensures) (c .enum-told .given .1))
+    (λ c. let a = c .before .before .before .before .before .before .args in release-kept _ _ (a .order) (a .s) (c .before .before .before .release .result) (c .before .before .before .before .before .remaining .ensures) (c .before .before .before .release .ensures) (c .before .gated .given .1)))

@@ -9,6 +9,6 @@ schedule-expiry-spec =
     tie.close (tie.spec
     (λ c. search needs)
     (λ c. search needs)
-    (λ c. no-expiry _ _ _ _ (c .enum-told .given .1))
+    (λ c. let a = c .before .before .args in no-expiry _ _ (a .s) (a .expiry) (c .enum-told .given .1))
     (λ c κs. search needs)
-    (λ c. some-expiry _ _ _ _ (c .before .before .expiry .given .1) (c .schedule .result) (c .schedule .ensures)))
+    (λ c. let a = c .before .before .before .before .args in some-expiry _ _ (a .s) (a .expiry) (c .before .before .expiry .given .1) (c .schedule .result) (c .schedule .ensures)))

@@ -1,0 +1,34 @@
+-- The next event as the rules say it, and the parts of the state that an observation changes.
+use Prim.Native.Nat.{ℕ}
+use Rattle.book.specs.With.{withControl, withClock, withMsgs, withDeliveries, withObserved, withAgent, clockNowNs}
+use Rattle.book.specs.declared.deliveries.Deliveries.{Deliveries}
+use Rattle.book.specs.declared.msgs.Msgs.{Msgs}
+use Rattle.book.specs.declared.observed.Observed.{Observed}
+use Rattle.book.specs.declared.state.AgentView.{AgentView}
+use Rattle.book.specs.declared.state.Control.{Control}
+use Rattle.book.specs.declared.state.KernelState.{KernelState}
+use Rattle.rules.specs.Events as walk
+use Rattle.reports.specs.declared.Step.{Step}
+use Rattle.walk.specs.declared.Class.{Class}
+use Rattle.walk.specs.declared.Class.the-variants as class
+use Rattle.walk.specs.declared.Next.{Next}
+use Rattle.walk.specs.declared.Next.the-variants as next
+use Rattle.walk.specs.declared.ObsTaken.{ObsTaken}
+
+abbrev pub ruleClass : Class → walk.Class
+ruleClass class.Venue = walk.venue
+ruleClass class.Delivery = walk.delivery
+ruleClass class.Observation = walk.observation
+
+abbrev pub ruleNext : Next → walk.Next
+ruleNext next.Nothing = walk.nothing
+ruleNext (next.At k t) = walk.next (ruleClass k) t
+
+abbrev pub withQueues : KernelState → Msgs → Deliveries → Observed → KernelState
+withQueues s m d o = withObserved (withDeliveries (withMsgs s m) d) o
+
+abbrev pub withObsTaken : KernelState → ℕ → Control → Observed → AgentView → KernelState
+withObsTaken s now c o a = withAgent (withObserved (withControl (withClock s (clockNowNs (s .clock) now)) c) o) a
+
+abbrev pub obsTakenIn : KernelState → ℕ → ObsTaken → Step
+obsTakenIn s now l = record { outcome = l .outcome; state = withObsTaken s now (l .control) (l .observed) (l .agent); raised = l .raised }

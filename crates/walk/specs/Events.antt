@@ -7,7 +7,7 @@ use Rattle.book.specs.declared.observed.Observed.{Observed}
 use Rattle.book.specs.declared.state.AgentView.{AgentView}
 use Rattle.book.specs.declared.state.Control.{Control}
 use Rattle.book.specs.declared.state.KernelState.{KernelState}
-use Rattle.rules.specs.Events as walk
+use Rattle.rules.specs.Events as events
 use Rattle.reports.specs.declared.Step.{Step}
 use Rattle.walk.specs.declared.Class.{Class}
 use Rattle.walk.specs.declared.Class.the-variants as class
@@ -15,14 +15,14 @@ use Rattle.walk.specs.declared.Next.{Next}
 use Rattle.walk.specs.declared.Next.the-variants as next
 use Rattle.walk.specs.declared.ObsTaken.{ObsTaken}
 
-abbrev pub ruleClass : Class → walk.Class
-ruleClass class.Venue = walk.venue
-ruleClass class.Delivery = walk.delivery
-ruleClass class.Observation = walk.observation
+abbrev pub ruleClass : Class → events.Class
+ruleClass class.Venue = events.venue
+ruleClass class.Delivery = events.delivery
+ruleClass class.Observation = events.observation
 
-abbrev pub ruleNext : Next → walk.Next
-ruleNext next.Nothing = walk.nothing
-ruleNext (next.At k t) = walk.next (ruleClass k) t
+abbrev pub ruleNext : Next → events.Next
+ruleNext next.Nothing = events.nothing
+ruleNext (next.At k t) = events.next (ruleClass k) t
 
 abbrev pub withQueues : KernelState → Msgs → Deliveries → Observed → KernelState
 withQueues s m d o = withObserved (withDeliveries (withMsgs s m) d) o

@@ -18,11 +18,11 @@ apply-next-msg-spec =
     (λ c. search needs)
     (λ c κs. search needs)
     (λ c. search needs)
-    (λ c. let a = c .before .before .before .before .before .before .before .before .before .before .before .before .before .before .args in let b = c .before .before .before .before .before in let d = b .before .before .before .before in let e = d .before .before in
+    (λ c. let b = c .before .before .before .before .before in let d = b .before .before .before .before in let e = d .before .before in let a = e .before .before .before .args in
     next-cancel _ _ (a .cfg) (a .s) (e .pop-front .result) (e .pop-front .ensures) _ (d .got .given .1) _ (b .kind .given .1) (c .before .before .apply-cancel .ensures))
     (λ c. search needs)
-    (λ c. let a = c .before .before .before .before .before .before .before .before .before .before .before .before .before .before .args in let b = c .before .before .before .before .before in let d = b .before .before .before .before in let e = d .before .before in
+    (λ c. let b = c .before .before .before .before .before in let d = b .before .before .before .before in let e = d .before .before in let a = e .before .before .before .args in
     next-activate _ _ (a .cfg) (a .s) (e .pop-front .result) (e .pop-front .ensures) _ (d .got .given .1) _ _ (b .kind2 .given .1) (c .before .before .activation .ensures))
     (λ c. search needs)
-    (λ c. let a = c .before .before .before .before .before .before .before .before .before .before .before .before .before .before .args in let b = c .before .before .before .before .before in let d = b .before .before .before .before in let e = d .before .before in
+    (λ c. let b = c .before .before .before .before .before in let d = b .before .before .before .before in let e = d .before .before in let a = e .before .before .before .args in
     next-expire _ _ (a .cfg) (a .s) (e .pop-front .result) (e .pop-front .ensures) _ (d .got .given .1) _ (b .kind3 .given .1) (c .before .before .apply-expire .ensures)))

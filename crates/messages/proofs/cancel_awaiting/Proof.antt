@@ -14,5 +14,5 @@ cancel-awaiting-spec =
     (λ c κs. search needs)
     (λ c κs. search needs)
     (λ c. search needs)
-    (λ c. let a = c .before .before .before .before .before .before .before .before .before .before .before .before .args in let b = c .before .before .before .before in let d = b .before .before .before in let e = d .before .before in
+    (λ c. let b = c .before .before .before .before in let d = b .before .before .before in let e = d .before .before in let a = e .before .before .before .args in
     awaiting-reported _ _ _ _ (a .cfg) (a .s) (e .remove .result) (e .remove .ensures) _ (d .got .given .1) _ (b .status-report .ensures) (c .before .before .send .ensures)))

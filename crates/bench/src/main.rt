@@ -5,8 +5,6 @@ mod day;
 mod line;
 
 use book::config::Config;
-use book::state::KernelState;
-use book::state::Phase;
 use day::Day;
 use day::config_of;
 use day::put_rows;
@@ -15,6 +13,8 @@ use kernel::advance;
 use kernel::pass;
 use line::argument;
 use line::put_line;
+use state::KernelState;
+use state::Phase;
 
 // What a run of a day came to.
 struct Total {

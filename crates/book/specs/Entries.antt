@@ -17,9 +17,7 @@ use Rattle.book.specs.declared.VenueOrder.{VenueOrder}
 use Rattle.book.specs.declared.VenueMsg.{VenueMsg}
 use Rattle.book.specs.declared.Delivery.{Delivery}
 use Rattle.book.specs.declared.ObsEntry.{ObsEntry}
-use Rattle.book.specs.declared.account.OpenOrder.{OpenOrder}
-use Rattle.book.specs.declared.state.Phase.{Phase}
-use Rattle.book.specs.declared.state.Phase.the-variants.{BeforeMatch, ObsQueued, AwaitDecision, Terminal}
+use Rattle.book.specs.declared.OpenOrder.{OpenOrder}
 use Rattle.book.specs.declared.Found.{Found}
 use Rattle.book.specs.declared.Found.the-variants as found
 
@@ -107,13 +105,6 @@ isExpiry id m = expires id (m .kind)
 -- ---- of an account entry
 abbrev pub isOpenOf : ℕ → OpenOrder → Bool
 isOpenOf id a = eqb (a .«order_id») id
-
--- ---- of a phase
-abbrev pub isTerminalPhase : Phase → Bool
-isTerminalPhase BeforeMatch = false
-isTerminalPhase ObsQueued = false
-isTerminalPhase AwaitDecision = false
-isTerminalPhase Terminal = true
 
 -- ---- what a search answers
 abbrev pub place : Found → Option ℕ

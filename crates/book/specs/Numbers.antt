@@ -1,4 +1,4 @@
--- The paper's number of each case: sides, report kinds, origins, halts, refusals, yes and no.
+-- The paper's number of each case: sides, report kinds, origins, yes and no.
 use Prim.Native.Nat.{ℕ}
 use mathlib.Core.Bool.{Bool, true, false}
 use Rattle.book.specs.declared.Side.{Side}
@@ -7,10 +7,6 @@ use Rattle.book.specs.declared.ExecKind.{ExecKind}
 use Rattle.book.specs.declared.ExecKind.the-variants.{Accepted, Rejected, Canceled, CancelRejected, PartialFill, Fill}
 use Rattle.book.specs.declared.Origin.{Origin}
 use Rattle.book.specs.declared.Origin.the-variants.{Local, Venue}
-use Rattle.book.specs.declared.state.HaltReason.{HaltReason}
-use Rattle.book.specs.declared.state.HaltReason.the-variants.{LedgerOverflow, TimeOverflow, CounterOverflow}
-use Rattle.book.specs.declared.state.Refusal.{Refusal}
-use Rattle.book.specs.declared.state.Refusal.the-variants.{RowWords, ListCount, NotPaused, NoResume, StepLimit}
 
 -- side 0 Buy 1 Sell
 abbrev pub sideNumber : Side → ℕ
@@ -35,17 +31,3 @@ originNumber Venue = 1
 abbrev pub flagNumber : Bool → ℕ
 flagNumber false = 0
 flagNumber true = 1
-
--- the halts of 'Refused or halted'
-abbrev pub haltNumber : HaltReason → ℕ
-haltNumber LedgerOverflow = 5
-haltNumber TimeOverflow = 6
-haltNumber CounterOverflow = 7
-
--- the refusals of 'Refused or halted', 101 up
-abbrev pub refusalNumber : Refusal → ℕ
-refusalNumber RowWords = 101
-refusalNumber ListCount = 102
-refusalNumber NotPaused = 103
-refusalNumber NoResume = 104
-refusalNumber StepLimit = 105

@@ -1,16 +1,10 @@
-// The records of the venue's side (book.rs of the Rust) and, in modules of their own, the lists that hold them, the state and the configuration.
+// The records that the lists of the state hold (book.rs of the Rust) and, in a module of its own, the configuration. Each kind of list is a crate of its own above this one.
 // Each enum has the blank's case first, so that a slot of zeros and first cases is the blank entry.
-pub mod account;
 pub mod config;
-pub mod deliveries;
-pub mod msgs;
-pub mod observed;
-pub mod orders;
-pub mod state;
 
 use numbers::words::saturating_sub;
 ghost use mathlib.Core.Path.{_≡_};
-ghost use Rattle.book.specs.Entries.{remaining, inState, isTerminal, blankOrder, blankMsg, blankDelivery, blankObs};
+ghost use Rattle.book.specs.Entries.{remaining, inState, isTerminal, isOpen, isLater, isActivation, isExpiry, blankOrder, blankMsg, blankDelivery, blankObs, blankOpen};
 ghost use Rattle.book.specs.Numbers.{sideNumber, execNumber, originNumber, flagNumber};
 
 // The Rust's Dir.
@@ -103,6 +97,20 @@ impl VenueOrder {
             cancel_inflight: self.cancel_inflight,
         }
     }
+
+    // Whether it has this number and is not terminal.
+    pub fn is_open(self, id: u64) -> bool
+        ensures { λ r. ⌜ r ≡ isOpen id self ⌝ }
+    {
+        if self.id != id {
+            return false;
+        }
+        let state = self.state;
+        if state.is_terminal() {
+            return false;
+        }
+        true
+    }
 }
 
 // A message holds one of three kinds. An activation carries a whole order and its life, 0 for none.
@@ -127,6 +135,38 @@ impl VenueMsg {
             eff_ns: 0,
             seq: 0,
             kind: MsgKind::Cancel { id: 0 },
+        }
+    }
+
+    // Whether its pair is greater than (eff_ns, seq).
+    pub fn is_later(self, eff_ns: u64, seq: u64) -> bool
+        ensures { λ r. ⌜ r ≡ isLater «eff_ns» seq self ⌝ }
+    {
+        if self.eff_ns == eff_ns {
+            return seq < self.seq;
+        }
+        eff_ns < self.eff_ns
+    }
+
+    pub fn is_activation(self, id: u64) -> bool
+        ensures { λ r. ⌜ r ≡ isActivation id self ⌝ }
+    {
+        let kind = self.kind;
+        match kind {
+            MsgKind::Cancel { id: _ } => false,
+            MsgKind::Activate { order, life: _ } => order.id == id,
+            MsgKind::Expire { id: _ } => false,
+        }
+    }
+
+    pub fn is_expiry(self, id: u64) -> bool
+        ensures { λ r. ⌜ r ≡ isExpiry id self ⌝ }
+    {
+        let kind = self.kind;
+        match kind {
+            MsgKind::Cancel { id: _ } => false,
+            MsgKind::Activate { order: _, life: _ } => false,
+            MsgKind::Expire { id: target } => target == id,
         }
     }
 }
@@ -257,6 +297,23 @@ impl ObsEntry {
         ObsEntry {
             ready_ns: 0,
             row: 0,
+        }
+    }
+}
+
+// An order that the agent submitted and has not seen closed.
+pub struct OpenOrder {
+    pub order_id: u64,
+    pub awaiting_cancel_outcome: bool,
+}
+
+impl OpenOrder {
+    pub fn blank() -> Self
+        ensures { λ r. ⌜ r ≡ blankOpen ⌝ }
+    {
+        OpenOrder {
+            order_id: 0,
+            awaiting_cancel_outcome: false,
         }
     }
 }

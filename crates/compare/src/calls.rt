@@ -14,9 +14,8 @@ use super::output::put_bytes;
 use super::output::put_field;
 use super::output::put_line;
 use super::output::put_newline;
-use super::state::put_state;
+use super::state_text::put_state;
 use book::config::Config;
-use book::state::KernelState;
 use kernel::Advanced;
 use kernel::Answer;
 use kernel::advance;
@@ -24,6 +23,7 @@ use kernel::pass;
 use numbers::MaybeU64;
 use numbers::words::checked_add;
 use numbers::words::wrapping_mul;
+use state::KernelState;
 ghost use Prim.Native.Nat.{_*_, _≤_};
 
 fn is_ended(s: KernelState) -> bool {

@@ -12,12 +12,12 @@ use super::input::number;
 use super::input::size;
 use super::input::take_byte;
 use super::input::unused;
-use super::state::read_option;
-use super::state::read_state;
+use super::state_text::read_option;
+use super::state_text::read_state;
 use book::config::Config;
 use book::config::FillMode;
-use book::state::KernelState;
 use numbers::MaybeU64;
+use state::KernelState;
 
 // The room for a case. A line that needs more is bad, and a log that is longer counts as this one, which no call fills.
 pub type Name = [u8; 256];

@@ -17,25 +17,25 @@ use super::output::put_line;
 use super::output::put_newline;
 use super::output::put_pair;
 use super::output::put_zeros;
+use account::AgentAccount;
 use book::Delivery;
 use book::ExecKind;
 use book::FillRec;
 use book::MaybeFill;
 use book::MsgKind;
 use book::ObsEntry;
+use book::OpenOrder;
 use book::OrderState;
 use book::Origin;
 use book::ReportRec;
 use book::Side;
 use book::VenueMsg;
 use book::VenueOrder;
-use book::account::AgentAccount;
-use book::account::OpenOrder;
-use book::deliveries::Deliveries;
 use book::flag_number;
-use book::msgs::Msgs;
-use book::observed::Observed;
-use book::orders::Orders;
+use deliveries::Deliveries;
+use msgs::Msgs;
+use observed::Observed;
+use orders::Orders;
 ghost use Prim.Native.Nat.{_≤_};
 
 pub fn least(a: usize, b: usize) -> usize
@@ -139,7 +139,7 @@ pub fn read_orders(block: &mut Block, r: &mut Reader, name: &[u8]) -> Orders {
     let count = size(number(block, r, name));
     let mut list = Orders::new();
     list.count = count;
-    for i in 0..least(count, book::orders::CAPACITY) {
+    for i in 0..least(count, orders::CAPACITY) {
         label(block, r, b"order");
         let o = read_order(block, r);
         newline(block, r);
@@ -150,7 +150,7 @@ pub fn read_orders(block: &mut Block, r: &mut Reader, name: &[u8]) -> Orders {
 
 pub fn put_orders(out: &mut Block, at: &mut Place, name: &[u8], list: Orders) {
     put_line(out, at, name, word(list.count));
-    for i in 0..least(list.count, book::orders::CAPACITY) {
+    for i in 0..least(list.count, orders::CAPACITY) {
         let o = list.slots[i];
         put_bytes(out, at, b"order");
         put_order(out, at, o);
@@ -212,7 +212,7 @@ pub fn read_msgs(block: &mut Block, r: &mut Reader) -> Msgs {
     let count = size(number(block, r, b"msgs"));
     let mut list = Msgs::new();
     list.count = count;
-    for i in 0..least(count, book::msgs::CAPACITY) {
+    for i in 0..least(count, msgs::CAPACITY) {
         label(block, r, b"msg");
         let m = read_msg(block, r);
         newline(block, r);
@@ -223,7 +223,7 @@ pub fn read_msgs(block: &mut Block, r: &mut Reader) -> Msgs {
 
 pub fn put_msgs(out: &mut Block, at: &mut Place, list: Msgs) {
     put_line(out, at, b"msgs", word(list.count));
-    for i in 0..least(list.count, book::msgs::CAPACITY) {
+    for i in 0..least(list.count, msgs::CAPACITY) {
         let m = list.slots[i];
         put_bytes(out, at, b"msg");
         put_msg(out, at, m);
@@ -346,7 +346,7 @@ pub fn read_deliveries(block: &mut Block, r: &mut Reader) -> Deliveries {
     let count = size(number(block, r, b"deliveries"));
     let mut list = Deliveries::new();
     list.count = count;
-    for i in 0..least(count, book::deliveries::CAPACITY) {
+    for i in 0..least(count, deliveries::CAPACITY) {
         label(block, r, b"delivery");
         let d = read_delivery(block, r);
         newline(block, r);
@@ -357,7 +357,7 @@ pub fn read_deliveries(block: &mut Block, r: &mut Reader) -> Deliveries {
 
 pub fn put_deliveries(out: &mut Block, at: &mut Place, list: Deliveries) {
     put_line(out, at, b"deliveries", word(list.count));
-    for i in 0..least(list.count, book::deliveries::CAPACITY) {
+    for i in 0..least(list.count, deliveries::CAPACITY) {
         let d = list.slots[i];
         put_bytes(out, at, b"delivery");
         put_delivery(out, at, d);
@@ -377,7 +377,7 @@ pub fn read_observed(block: &mut Block, r: &mut Reader) -> Observed {
     let count = size(number(block, r, b"observed"));
     let mut list = Observed::new();
     list.count = count;
-    for i in 0..least(count, book::observed::CAPACITY) {
+    for i in 0..least(count, observed::CAPACITY) {
         label(block, r, b"obs");
         let o = read_obs(block, r);
         newline(block, r);
@@ -388,7 +388,7 @@ pub fn read_observed(block: &mut Block, r: &mut Reader) -> Observed {
 
 pub fn put_observed(out: &mut Block, at: &mut Place, list: Observed) {
     put_line(out, at, b"observed", word(list.count));
-    for i in 0..least(list.count, book::observed::CAPACITY) {
+    for i in 0..least(list.count, observed::CAPACITY) {
         let o = list.slots[i];
         put_pair(out, at, b"obs", o.ready_ns, o.row);
     }
@@ -407,7 +407,7 @@ pub fn read_account(block: &mut Block, r: &mut Reader) -> AgentAccount {
     let count = size(number(block, r, b"account"));
     let mut list = AgentAccount::new();
     list.count = count;
-    for i in 0..least(count, book::account::CAPACITY) {
+    for i in 0..least(count, account::CAPACITY) {
         label(block, r, b"open");
         let o = read_open(block, r);
         newline(block, r);
@@ -418,7 +418,7 @@ pub fn read_account(block: &mut Block, r: &mut Reader) -> AgentAccount {
 
 pub fn put_account(out: &mut Block, at: &mut Place, list: AgentAccount) {
     put_line(out, at, b"account", word(list.count));
-    for i in 0..least(list.count, book::account::CAPACITY) {
+    for i in 0..least(list.count, account::CAPACITY) {
         let o = list.slots[i];
         put_pair(
             out,

@@ -5,7 +5,7 @@ mod case;
 mod entries;
 mod input;
 mod output;
-mod state;
+mod state_text;
 
 use calls::run_case;
 use case::Calls;

@@ -7,9 +7,9 @@ use lib.Dec.{eqb}
 use lib.ListN.{length, take, drop, getD}
 use lib.Seq.{take-append-seam}
 use Rattle.numbers.specs.Choice.{pick}
-use Rattle.book.specs.Entries.{isTerminalPhase}
+use Rattle.state.specs.Numbers.{isTerminalPhase}
 use Rattle.book.specs.declared.config.Config.{Config}
-use Rattle.book.specs.declared.state.KernelState.{KernelState}
+use Rattle.state.specs.declared.KernelState.{KernelState}
 use Rattle.rules.specs.Calls as calls
 use Rattle.kernel.specs.Calls.{answerNumber, actualAdvance, actualPass}
 use Rattle.kernel.specs.declared.Advanced.{Advanced}

@@ -4,9 +4,9 @@ use mathlib.Core.Bool.{Bool, false}
 use mathlib.Core.List.{List}
 use lib.Dec.{eqb}
 use Rattle.numbers.specs.Choice.{pick}
-use Rattle.book.specs.Entries.{isTerminalPhase}
+use Rattle.state.specs.Numbers.{isTerminalPhase}
 use Rattle.book.specs.declared.config.Config.{Config}
-use Rattle.book.specs.declared.state.KernelState.{KernelState}
+use Rattle.state.specs.declared.KernelState.{KernelState}
 use Rattle.rules.specs.Calls as calls
 use Rattle.text.specs.Write.{Text, textAt, texted}
 use Rattle.lines.specs.Print.{callText, filledAfter, lastLine}

@@ -6,7 +6,7 @@ use Rattle.numbers.specs.Choice.{pick}
 use Rattle.numbers.specs.declared.MaybeU64.{MaybeU64}
 use Rattle.numbers.specs.declared.MaybeU64.the-variants.{None, Some}
 use Rattle.book.specs.declared.config.Config.{Config}
-use Rattle.book.specs.declared.state.KernelState.{KernelState}
+use Rattle.state.specs.declared.KernelState.{KernelState}
 use Rattle.lines.specs.Print.{badLine}
 use Rattle.runtext.specs.Read.{Read, readText}
 use Rattle.day.specs.Day.{TurnResult, turned, printedBy, lastOf}

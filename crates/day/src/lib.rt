@@ -1,11 +1,11 @@
 // A day's run between the reading of its text and the writing of its lines, on slices: nothing here opens a file.
 use book::config::Config;
-use book::state::KernelState;
 use kernel::advance;
 use kernel::pass;
 use lines::add_filled;
 use lines::put_call;
 use lines::put_last;
+use state::KernelState;
 ghost use mathlib.Core.Path.{_≡_};
 ghost use lib.ListN.{length, take};
 ghost use Rattle.text.specs.Write.{textAt, texted};

@@ -21,28 +21,30 @@ use Rattle.lists.specs.Lists.{onSome, live, popped, emptied}
 use Rattle.lists.proofs.Loops.{at-place}
 use Rattle.lists.proofs.Sums.{take-case}
 use Rattle.book.specs.Entries.{blankMsg, blankDelivery, blankObs}
-use Rattle.book.specs.Rows.{msgsRow, observedRow, deliveriesRow, deliveriesTaken}
-use Rattle.book.specs.With.{withControl, withMsgs, withDeliveries, withObserved, withAgent, withAccount, withCounters, controlPhase, controlStatus, agentPos, agentDeliveredFills, agentDeliveredLocalRejects, countersEofDroppedMsgs, countersEofDroppedObs}
+use Rattle.msgs.specs.Rows.{msgsRow}
+use Rattle.deliveries.specs.Rows.{deliveriesRow, deliveriesTaken}
+use Rattle.observed.specs.Rows.{observedRow}
+use Rattle.state.specs.With.{withControl, withMsgs, withDeliveries, withObserved, withAgent, withAccount, withCounters, controlPhase, controlStatus, agentPos, agentDeliveredFills, agentDeliveredLocalRejects, countersEofDroppedMsgs, countersEofDroppedObs}
 use Rattle.book.specs.declared.Delivery.{Delivery}
 use Rattle.book.specs.declared.FillRec.{FillRec}
 use Rattle.book.specs.declared.MaybeFill.{MaybeFill}
 use Rattle.book.specs.declared.MaybeFill.the-variants as fill
 use Rattle.book.specs.declared.ReportRec.{ReportRec}
 use Rattle.book.specs.declared.VenueMsg.{VenueMsg}
-use Rattle.book.specs.declared.account.AgentAccount.{AgentAccount}
-use Rattle.book.specs.declared.deliveries.Deliveries.{Deliveries}
-use Rattle.book.specs.declared.deliveries.DeliveriesTaken.{DeliveriesTaken}
-use Rattle.book.specs.declared.deliveries.MaybeDelivery.the-variants as delivery
-use Rattle.book.specs.declared.msgs.Msgs.{Msgs}
-use Rattle.book.specs.declared.observed.Observed.{Observed}
-use Rattle.book.specs.declared.state.AgentView.{AgentView}
-use Rattle.book.specs.declared.state.Control.{Control}
-use Rattle.book.specs.declared.state.HaltReason.the-variants.{LedgerOverflow, CounterOverflow}
-use Rattle.book.specs.declared.state.KernelEvent.{KernelEvent}
-use Rattle.book.specs.declared.state.KernelEvent.the-variants.{Delivered, EndOfData}
-use Rattle.book.specs.declared.state.KernelState.{KernelState}
-use Rattle.book.specs.declared.state.Phase.the-variants as phase
-use Rattle.book.specs.declared.state.Status.the-variants as status
+use Rattle.account.specs.declared.AgentAccount.{AgentAccount}
+use Rattle.deliveries.specs.declared.Deliveries.{Deliveries}
+use Rattle.deliveries.specs.declared.DeliveriesTaken.{DeliveriesTaken}
+use Rattle.deliveries.specs.declared.MaybeDelivery.the-variants as delivery
+use Rattle.msgs.specs.declared.Msgs.{Msgs}
+use Rattle.observed.specs.declared.Observed.{Observed}
+use Rattle.state.specs.declared.AgentView.{AgentView}
+use Rattle.state.specs.declared.Control.{Control}
+use Rattle.state.specs.declared.HaltReason.the-variants.{LedgerOverflow, CounterOverflow}
+use Rattle.state.specs.declared.KernelEvent.{KernelEvent}
+use Rattle.state.specs.declared.KernelEvent.the-variants.{Delivered, EndOfData}
+use Rattle.state.specs.declared.KernelState.{KernelState}
+use Rattle.state.specs.declared.Phase.the-variants as phase
+use Rattle.state.specs.declared.Status.the-variants as status
 use Rattle.rules.specs.Run as rules
 use Rattle.rules.specs.Matching.{moved}
 use Rattle.rules.specs.Delivery.{countFill, moveAgent, isLocal, isRejected, countReject, onDelivery, deliver, deliverNext, deliverAll, droppedEvent, emptyQueues, closeData, endOfData}

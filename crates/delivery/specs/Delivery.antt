@@ -1,10 +1,10 @@
 -- The parts of the state that deliveries change.
 use Prim.Native.Nat.{ℕ}
-use Rattle.book.specs.With.{withDeliveries, withAgent, withAccount}
-use Rattle.book.specs.declared.account.AgentAccount.{AgentAccount}
-use Rattle.book.specs.declared.deliveries.Deliveries.{Deliveries}
-use Rattle.book.specs.declared.state.AgentView.{AgentView}
-use Rattle.book.specs.declared.state.KernelState.{KernelState}
+use Rattle.state.specs.With.{withDeliveries, withAgent, withAccount}
+use Rattle.account.specs.declared.AgentAccount.{AgentAccount}
+use Rattle.deliveries.specs.declared.Deliveries.{Deliveries}
+use Rattle.state.specs.declared.AgentView.{AgentView}
+use Rattle.state.specs.declared.KernelState.{KernelState}
 use Rattle.reports.specs.declared.Step.{Step}
 use Rattle.delivery.specs.declared.AgentStep.{AgentStep}
 use Rattle.delivery.specs.declared.Emptied.{Emptied}

@@ -1,35 +1,35 @@
 // Deliveries, and the end of data.
+use account::AgentAccount;
 use book::Delivery;
 use book::ExecKind;
 use book::MaybeFill;
 use book::MsgKind;
 use book::Origin;
 use book::ReportRec;
-use book::account::AgentAccount;
-use book::deliveries::Deliveries;
-use book::deliveries::MaybeDelivery;
-use book::msgs::Msgs;
-use book::state::AgentView;
-use book::state::HaltReason;
-use book::state::KernelEvent;
-use book::state::KernelState;
-use book::state::Status;
-use models::account::on_delivery;
+use deliveries::Deliveries;
+use deliveries::MaybeDelivery;
+use models::effect::on_delivery;
 use models::gate::move_by;
+use msgs::Msgs;
 use numbers::MaybeU64;
 use numbers::position::Moved;
 use numbers::words::checked_add;
 use reports::Outcome;
 use reports::Step;
 use reports::log::emit;
+use state::AgentView;
+use state::HaltReason;
+use state::KernelEvent;
+use state::KernelState;
+use state::Status;
 ghost use mathlib.Core.Path.{_≡_};
 ghost use mathlib.Core.List.{List, map};
 ghost use Prim.Native.Nat.{ℕ};
 ghost use Rattle.lists.specs.Lists.{live};
 ghost use Rattle.book.specs.Capacities.{msgsCapacity};
-ghost use Rattle.book.specs.Rows.{msgsRow};
-ghost use Rattle.book.specs.With.{withAgent};
-ghost use Rattle.book.specs.declared.state.KernelState.{KernelState};
+ghost use Rattle.msgs.specs.Rows.{msgsRow};
+ghost use Rattle.state.specs.With.{withAgent};
+ghost use Rattle.state.specs.declared.KernelState.{KernelState};
 ghost use Rattle.rules.specs.Delivery.{moveAgent, countReject, isRejected, isLocal, deliver, deliverAll, droppedBy, droppedEvent, closeData, endOfData};
 ghost use Rattle.reports.specs.Log.{logAt, expected, actual, appendEvents};
 ghost use Rattle.delivery.specs.Delivery.{agentIn, deliveryStepIn, withDelivered, emptiedIn, withEmptied};
@@ -253,7 +253,7 @@ fn emit_dropped(log: &mut [u64], raised: u64, msgs: Msgs) -> u64
     let list = msgs;
     let count = list.count;
     let mut n = raised;
-    if count > book::msgs::CAPACITY {
+    if count > msgs::CAPACITY {
         return n;
     }
     for i in 0..count {

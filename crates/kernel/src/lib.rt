@@ -1,21 +1,21 @@
 // The kernel: `advance` and `pass` (step.rs of the Rust). A state goes in by value and comes back; inside, a function that runs on every row takes the parts that it changes.
 use book::config::Config;
-use book::state::Control;
-use book::state::HaltReason;
-use book::state::KernelEvent;
-use book::state::KernelState;
-use book::state::Phase;
-use book::state::Refusal;
-use book::state::Status;
 use numbers::MaybeU64;
 use numbers::words::checked_add;
 use phases::run_phases;
 use reports::Outcome;
 use reports::log::emit;
+use state::Control;
+use state::HaltReason;
+use state::KernelEvent;
+use state::KernelState;
+use state::Phase;
+use state::Refusal;
+use state::Status;
 ghost use mathlib.Core.List.{[]};
 ghost use mathlib.Core.Path.{_≡_};
-ghost use Rattle.book.specs.With.{withControl};
-ghost use Rattle.book.specs.declared.state.KernelState.{KernelState};
+ghost use Rattle.state.specs.With.{withControl};
+ghost use Rattle.state.specs.declared.KernelState.{KernelState};
 ghost use Rattle.rules.specs.Calls.{advance, pass, returned, halted, countsFit, isPaused, canResume};
 ghost use Rattle.kernel.specs.Calls.{answerNumber, actualAdvance, actualPass, passedIn};
 
@@ -52,22 +52,22 @@ pub struct Passed {
 fn counts_fit(s: KernelState) -> bool
     ensures { λ r. ⌜ r ≡ countsFit s ⌝ }
 {
-    if s.orders.count > book::orders::CAPACITY {
+    if s.orders.count > orders::CAPACITY {
         return false;
     }
-    if s.msgs.count > book::msgs::CAPACITY {
+    if s.msgs.count > msgs::CAPACITY {
         return false;
     }
-    if s.awaiting.count > book::orders::CAPACITY {
+    if s.awaiting.count > orders::CAPACITY {
         return false;
     }
-    if s.deliveries.count > book::deliveries::CAPACITY {
+    if s.deliveries.count > deliveries::CAPACITY {
         return false;
     }
-    if s.observed.count > book::observed::CAPACITY {
+    if s.observed.count > observed::CAPACITY {
         return false;
     }
-    if s.account.count > book::account::CAPACITY {
+    if s.account.count > account::CAPACITY {
         return false;
     }
     true

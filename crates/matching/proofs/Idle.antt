@@ -15,12 +15,12 @@ use Rattle.lists.specs.Lists.{onSome, before, foundIn, live, entryAt}
 use Rattle.lists.proofs.Cases.{pick-case, some-case}
 use Rattle.lists.proofs.Exits.{entry-over}
 use Rattle.book.specs.Entries.{blankOrder, isTerminal}
-use Rattle.book.specs.Rows.{ordersRow}
+use Rattle.orders.specs.Rows.{ordersRow}
 use Rattle.book.specs.declared.VenueOrder.{VenueOrder}
 use Rattle.book.specs.declared.config.Config.{Config}
 use Rattle.book.specs.declared.config.KernelTick.{KernelTick}
-use Rattle.book.specs.declared.orders.Orders.{Orders}
-use Rattle.book.specs.declared.state.KernelState.{KernelState}
+use Rattle.orders.specs.declared.Orders.{Orders}
+use Rattle.state.specs.declared.KernelState.{KernelState}
 use Rattle.rules.specs.Run.{ranTo, andThen}
 use Rattle.rules.specs.Matching.{matches, Fills, fillsOf, fillsAt, filling, matchAt, matchFrom, terminalAt, sweepFrom, sweep}
 use Rattle.matching.specs.Matching.{concerns, busy}

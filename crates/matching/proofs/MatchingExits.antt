@@ -14,8 +14,9 @@ use Rattle.numbers.specs.declared.MaybeU64.the-variants as u64
 use Rattle.lists.specs.Lists.{onSome, live, foundIn, entryAt, takeAt, storeAt, putBefore}
 use Rattle.lists.proofs.Exits.{put-full, push-in, store-in}
 use Rattle.book.specs.Entries.{blankOrder, remaining, inState, isTerminal, idAbove}
-use Rattle.book.specs.Rows.{ordersRow, ordersOf, ordersPut, ordersTaken, orderIn, deliveriesRow}
-use Rattle.book.specs.With.{withOrders, withMsgs, withDeliveries, seqsNextExecId, gateMark2, countersVenueFills}
+use Rattle.orders.specs.Rows.{ordersRow, ordersOf, ordersPut, ordersTaken, orderIn}
+use Rattle.deliveries.specs.Rows.{deliveriesRow}
+use Rattle.state.specs.With.{withOrders, withMsgs, withDeliveries, seqsNextExecId, gateMark2, countersVenueFills}
 use Rattle.book.specs.declared.ExecKind.{ExecKind}
 use Rattle.book.specs.declared.ExecKind.the-variants as exec
 use Rattle.book.specs.declared.FillRec.{FillRec}
@@ -26,18 +27,18 @@ use Rattle.book.specs.declared.VenueOrder.{VenueOrder}
 use Rattle.book.specs.declared.config.Config.{Config}
 use Rattle.book.specs.declared.config.FillMode.{FillMode}
 use Rattle.book.specs.declared.config.KernelTick.{KernelTick}
-use Rattle.book.specs.declared.deliveries.Deliveries.{Deliveries}
-use Rattle.book.specs.declared.msgs.Msgs.{Msgs}
-use Rattle.book.specs.declared.orders.MaybeOrder.{MaybeOrder}
-use Rattle.book.specs.declared.orders.MaybeOrder.the-variants as found
-use Rattle.book.specs.declared.orders.Orders.{Orders}
-use Rattle.book.specs.declared.orders.OrdersPut.{OrdersPut}
-use Rattle.book.specs.declared.orders.OrdersTaken.{OrdersTaken}
-use Rattle.book.specs.declared.state.GateState.{GateState}
-use Rattle.book.specs.declared.state.HaltReason.{HaltReason}
-use Rattle.book.specs.declared.state.HaltReason.the-variants.{LedgerOverflow, CounterOverflow}
-use Rattle.book.specs.declared.state.KernelEvent.the-variants.{Fill}
-use Rattle.book.specs.declared.state.KernelState.{KernelState}
+use Rattle.deliveries.specs.declared.Deliveries.{Deliveries}
+use Rattle.msgs.specs.declared.Msgs.{Msgs}
+use Rattle.orders.specs.declared.MaybeOrder.{MaybeOrder}
+use Rattle.orders.specs.declared.MaybeOrder.the-variants as found
+use Rattle.orders.specs.declared.Orders.{Orders}
+use Rattle.orders.specs.declared.OrdersPut.{OrdersPut}
+use Rattle.orders.specs.declared.OrdersTaken.{OrdersTaken}
+use Rattle.state.specs.declared.GateState.{GateState}
+use Rattle.state.specs.declared.HaltReason.{HaltReason}
+use Rattle.state.specs.declared.HaltReason.the-variants.{LedgerOverflow, CounterOverflow}
+use Rattle.state.specs.declared.KernelEvent.the-variants.{Fill}
+use Rattle.state.specs.declared.KernelState.{KernelState}
 use Rattle.models.specs.Rules.{ruleGate}
 use Rattle.models.specs.declared.gate.Gated.{Gated}
 use Rattle.models.specs.declared.gate.Gated.the-variants.{Fail, Done}

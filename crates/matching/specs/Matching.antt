@@ -5,14 +5,14 @@ use Rattle.numbers.specs.Choice.{pick}
 use Rattle.lists.specs.Lists.{onSome, foundIn, live}
 use Rattle.book.specs.Capacities.{ordersCapacity}
 use Rattle.book.specs.Entries.{isTerminal}
-use Rattle.book.specs.Rows.{ordersRow}
-use Rattle.book.specs.With.{withClock, withRngLatency, withSeqs, withOrders, withMsgs, withAwaiting, withGate, withDeliveries, withCounters}
+use Rattle.orders.specs.Rows.{ordersRow}
+use Rattle.state.specs.With.{withClock, withRngLatency, withSeqs, withOrders, withMsgs, withAwaiting, withGate, withDeliveries, withCounters}
 use Rattle.book.specs.declared.VenueOrder.{VenueOrder}
 use Rattle.book.specs.declared.config.KernelTick.{KernelTick}
-use Rattle.book.specs.declared.deliveries.Deliveries.{Deliveries}
-use Rattle.book.specs.declared.msgs.Msgs.{Msgs}
-use Rattle.book.specs.declared.orders.Orders.{Orders}
-use Rattle.book.specs.declared.state.KernelState.{KernelState}
+use Rattle.deliveries.specs.declared.Deliveries.{Deliveries}
+use Rattle.msgs.specs.declared.Msgs.{Msgs}
+use Rattle.orders.specs.declared.Orders.{Orders}
+use Rattle.state.specs.declared.KernelState.{KernelState}
 use Rattle.rules.specs.Matching.{matches, Fills, no-fill, fills, fails}
 use Rattle.reports.specs.declared.Step.{Step}
 use Rattle.matching.specs.declared.Venue.{Venue}

@@ -8,35 +8,35 @@ use book::VenueOrder;
 use book::config::Config;
 use book::config::FillMode;
 use book::config::KernelTick;
-use book::deliveries::Deliveries;
-use book::msgs::Msgs;
-use book::orders::MaybeOrder;
-use book::orders::Orders;
-use book::state::Clock;
-use book::state::Counters;
-use book::state::GateState;
-use book::state::HaltReason;
-use book::state::KernelEvent;
-use book::state::Seqs;
+use deliveries::Deliveries;
 use messages::remove_expiry;
 use models::fill::fill_lots;
 use models::fill::matches;
 use models::gate;
 use models::gate::Gated;
+use msgs::Msgs;
 use numbers::MaybeU64;
 use numbers::words::checked_add;
 use numbers::words::checked_mul;
+use orders::MaybeOrder;
+use orders::Orders;
 use reports::Outcome;
 use reports::log::emit;
 use reports::report::report_on;
 use reports::report::stamp;
 use reports::report::status_report;
+use state::Clock;
+use state::Counters;
+use state::GateState;
+use state::HaltReason;
+use state::KernelEvent;
+use state::Seqs;
 ghost use mathlib.Core.Path.{_≡_};
 ghost use mathlib.Core.List.{List};
 ghost use Prim.Native.Nat.{ℕ, _≤_};
 ghost use Rattle.book.specs.Entries.{remaining};
-ghost use Rattle.book.specs.declared.state.KernelState.{KernelState};
-ghost use Rattle.book.specs.With.{withOrders};
+ghost use Rattle.state.specs.declared.KernelState.{KernelState};
+ghost use Rattle.state.specs.With.{withOrders};
 ghost use Rattle.rules.specs.Run.{haltAt};
 ghost use Rattle.rules.specs.Matching.{filledBy, recordAt, fillKind, fillEvent, fillsAt, matchFrom, leave, terminalAt, sweepFrom, gateMarked};
 ghost use Rattle.reports.specs.Log.{logAt, expected, actual};
@@ -215,7 +215,7 @@ pub fn match_orders(
     ensures { λ r. ⌜ ((s : KernelState) → actual (matchedIn s r) (now (log .exit)) ≡ expected (logAt (now (log .entry)) raised) (matchFrom cfg row (orders .count) 0 (withMatched s venue orders deliveries))) ⌝ }
 {
     let count = orders.count;
-    if count > book::orders::CAPACITY {
+    if count > orders::CAPACITY {
         return Matched {
             outcome: Outcome::Ran,
             venue,
@@ -275,7 +275,7 @@ pub fn match_orders(
                     break p;
                 };
                 let at = ds.count;
-                if at >= book::deliveries::CAPACITY {
+                if at >= deliveries::CAPACITY {
                     break Outcome::Halt(HaltReason::CounterOverflow);
                 }
                 let fill = fill_record(now_ns, before.next_exec_id, order, k);
@@ -356,7 +356,7 @@ pub fn sweep(orders: Orders, msgs: Msgs, awaiting: Orders) -> Swept
     ensures { λ r. ⌜ ((s : KernelState) (n : ℕ) (w : List ℕ) → actual (sweptIn s n r) w ≡ expected (logAt w n) (sweepFrom (orders .count) 0 (withSwept s orders msgs awaiting))) ⌝ }
 {
     let looks = orders.count;
-    if looks > book::orders::CAPACITY {
+    if looks > orders::CAPACITY {
         return Swept {
             outcome: Outcome::Ran,
             orders,
@@ -410,7 +410,7 @@ pub fn busy(row: KernelTick, orders: Orders) -> bool
 {
     let list = orders;
     let count = list.count;
-    if count > book::orders::CAPACITY {
+    if count > orders::CAPACITY {
         return false;
     }
     for i in 0..count {

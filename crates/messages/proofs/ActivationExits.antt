@@ -10,15 +10,15 @@ use Rattle.numbers.specs.Words.{fitting, onWord}
 use Rattle.numbers.specs.declared.MaybeU64.{MaybeU64}
 use Rattle.numbers.specs.declared.MaybeU64.the-variants as u64
 use Rattle.book.specs.Entries.{inState}
-use Rattle.book.specs.With.{withSeqs}
+use Rattle.state.specs.With.{withSeqs}
 use Rattle.book.specs.declared.ExecKind.the-variants as exec
 use Rattle.book.specs.declared.MaybeFill.the-variants as fill
 use Rattle.book.specs.declared.OrderState.the-variants as order
 use Rattle.book.specs.declared.ReportRec.{ReportRec}
 use Rattle.book.specs.declared.VenueOrder.{VenueOrder}
 use Rattle.book.specs.declared.config.Config.{Config}
-use Rattle.book.specs.declared.state.HaltReason.the-variants.{TimeOverflow, CounterOverflow}
-use Rattle.book.specs.declared.state.KernelState.{KernelState}
+use Rattle.state.specs.declared.HaltReason.the-variants.{TimeOverflow, CounterOverflow}
+use Rattle.state.specs.declared.KernelState.{KernelState}
 use Rattle.rules.specs.Report.{reportAt, queueDelivery}
 use Rattle.rules.specs.Messages.{release, awaitMarked, book, valid, scheduleExpiry, accept, reject, activate, activation}
 use Rattle.reports.specs.Log.{logAt, appendEvents, StepResult, expected, actual, stampedAt}

@@ -9,8 +9,9 @@ use types.Run.{OneOf}
 use denote.Enum.Declared.{tagOf}
 use Rattle.lists.specs.Lists.{onSome, live, foundIn, takeAt, popped}
 use Rattle.book.specs.Entries.{blankOrder, blankMsg, inState, isOpen, hasId, isActivation, place}
-use Rattle.book.specs.Rows.{ordersRow, orderIn, ordersTaken, msgsRow, msgIn, msgsTaken}
-use Rattle.book.specs.With.{withSeqs, withOrders, withMsgs, withAwaiting}
+use Rattle.orders.specs.Rows.{ordersRow, orderIn, ordersTaken}
+use Rattle.msgs.specs.Rows.{msgsRow, msgIn, msgsTaken}
+use Rattle.state.specs.With.{withSeqs, withOrders, withMsgs, withAwaiting}
 use Rattle.book.specs.declared.ExecKind.the-variants as exec
 use Rattle.book.specs.declared.Found.{Found}
 use Rattle.book.specs.declared.Found.the-variants as found
@@ -22,13 +23,13 @@ use Rattle.book.specs.declared.ReportRec.{ReportRec}
 use Rattle.book.specs.declared.VenueMsg.{VenueMsg}
 use Rattle.book.specs.declared.VenueOrder.{VenueOrder}
 use Rattle.book.specs.declared.config.Config.{Config}
-use Rattle.book.specs.declared.msgs.MaybeMsg.the-variants as msg
-use Rattle.book.specs.declared.msgs.Msgs.{Msgs}
-use Rattle.book.specs.declared.msgs.MsgsTaken.{MsgsTaken}
-use Rattle.book.specs.declared.orders.MaybeOrder.the-variants as maybe
-use Rattle.book.specs.declared.orders.OrdersTaken.{OrdersTaken}
-use Rattle.book.specs.declared.state.KernelEvent.the-variants.{Expired}
-use Rattle.book.specs.declared.state.KernelState.{KernelState}
+use Rattle.msgs.specs.declared.MaybeMsg.the-variants as msg
+use Rattle.msgs.specs.declared.Msgs.{Msgs}
+use Rattle.msgs.specs.declared.MsgsTaken.{MsgsTaken}
+use Rattle.orders.specs.declared.MaybeOrder.the-variants as maybe
+use Rattle.orders.specs.declared.OrdersTaken.{OrdersTaken}
+use Rattle.state.specs.declared.KernelEvent.the-variants.{Expired}
+use Rattle.state.specs.declared.KernelState.{KernelState}
 use Rattle.rules.specs.Run as rules
 use Rattle.rules.specs.Report.{reportAt, queueDelivery}
 use Rattle.rules.specs.Messages.{release, awaitMarked, removeExpiry, activation, cancelBooked, onActivation, cancelPending, cancelAwaiting, cancel, expireBooked, expire, applyNextMsg}

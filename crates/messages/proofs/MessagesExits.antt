@@ -10,21 +10,22 @@ use Rattle.numbers.specs.declared.MaybeU64.{MaybeU64}
 use Rattle.numbers.specs.declared.MaybeU64.the-variants as u64
 use Rattle.lists.specs.Lists.{onSome, live, foundIn, pushed, putBefore, takeAt}
 use Rattle.book.specs.Entries.{blankMsg, remaining, idAbove, isLater, isExpiry, place}
-use Rattle.book.specs.Rows.{ordersRow, ordersPut, msgsRow, msgsPut, msgsTaken}
-use Rattle.book.specs.With.{withSeqs, withOrders, withMsgs, withAwaiting, withGate, seqsNextMsgSeq}
+use Rattle.orders.specs.Rows.{ordersRow, ordersPut}
+use Rattle.msgs.specs.Rows.{msgsRow, msgsPut, msgsTaken}
+use Rattle.state.specs.With.{withSeqs, withOrders, withMsgs, withAwaiting, withGate, seqsNextMsgSeq}
 use Rattle.book.specs.declared.Found.{Found}
 use Rattle.book.specs.declared.Found.the-variants as found
 use Rattle.book.specs.declared.MsgKind.{MsgKind}
 use Rattle.book.specs.declared.MsgKind.the-variants.{Expire}
 use Rattle.book.specs.declared.VenueOrder.{VenueOrder}
-use Rattle.book.specs.declared.msgs.Msgs.{Msgs}
-use Rattle.book.specs.declared.msgs.MsgsPut.{MsgsPut}
-use Rattle.book.specs.declared.msgs.MsgsTaken.{MsgsTaken}
-use Rattle.book.specs.declared.orders.OrdersPut.{OrdersPut}
-use Rattle.book.specs.declared.state.GateState.{GateState}
-use Rattle.book.specs.declared.state.HaltReason.{HaltReason}
-use Rattle.book.specs.declared.state.HaltReason.the-variants.{CounterOverflow}
-use Rattle.book.specs.declared.state.KernelState.{KernelState}
+use Rattle.msgs.specs.declared.Msgs.{Msgs}
+use Rattle.msgs.specs.declared.MsgsPut.{MsgsPut}
+use Rattle.msgs.specs.declared.MsgsTaken.{MsgsTaken}
+use Rattle.orders.specs.declared.OrdersPut.{OrdersPut}
+use Rattle.state.specs.declared.GateState.{GateState}
+use Rattle.state.specs.declared.HaltReason.{HaltReason}
+use Rattle.state.specs.declared.HaltReason.the-variants.{CounterOverflow}
+use Rattle.state.specs.declared.KernelState.{KernelState}
 use Rattle.models.specs.Rules.{ruleGate}
 use Rattle.models.specs.declared.gate.Gated.{Gated}
 use Rattle.models.specs.declared.gate.Gated.the-variants.{Fail, Done}

@@ -1,7 +1,7 @@
 -- What the leaves answer, as the rules say it. A conversion only renames.
 use Prim.Native.Nat.{ℕ}
 use mathlib.Core.Option.{Option, none, some}
-use Rattle.book.specs.declared.state.GateState.{GateState}
+use Rattle.state.specs.declared.GateState.{GateState}
 use Rattle.rules.specs.Generator.{Draw}
 use Rattle.rules.specs.Report.{Delay}
 use Rattle.rules.specs.Delivery as rules
@@ -9,8 +9,8 @@ use Rattle.models.specs.declared.rng.Drawn.{Drawn}
 use Rattle.models.specs.declared.latency.Arrival.{Arrival}
 use Rattle.models.specs.declared.gate.Gated.{Gated}
 use Rattle.models.specs.declared.gate.Gated.the-variants.{Fail, Done}
-use Rattle.models.specs.declared.account.Effect.{Effect}
-use Rattle.models.specs.declared.account.Effect.the-variants.{Stands, Closes, Awaits}
+use Rattle.models.specs.declared.effect.Effect.{Effect}
+use Rattle.models.specs.declared.effect.Effect.the-variants.{Stands, Closes, Awaits}
 
 abbrev pub ruleDraw : Drawn → Draw
 ruleDraw d = record { rng = d .rng .state; value = d .value }

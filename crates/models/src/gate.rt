@@ -1,8 +1,8 @@
 // The gate: the venue's position and the live lots of each side.
 use book::Side;
-use book::state::GateState;
 use numbers::position::Moved;
 use numbers::position::Position;
+use state::GateState;
 ghost use mathlib.Core.Path.{_≡_};
 ghost use Rattle.rules.specs.Messages.{released};
 ghost use Rattle.rules.specs.Matching.{moved, gateFilled};

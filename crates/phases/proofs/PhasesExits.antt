@@ -15,19 +15,19 @@ use Rattle.numbers.specs.declared.MaybeU64.the-variants.{None, Some}
 use Rattle.lists.specs.Lists.{onSome, pushed, popped}
 use Rattle.lists.proofs.Cases.{some-case, pick-case}
 use Rattle.book.specs.Entries.{blankObs}
-use Rattle.book.specs.Rows.{observedRow, observedPut}
-use Rattle.book.specs.With.{withControl, withClock, withGate, clockNowNs, clockLastObservedNs, controlPhase}
+use Rattle.observed.specs.Rows.{observedRow, observedPut}
+use Rattle.state.specs.With.{withControl, withClock, withGate, clockNowNs, clockLastObservedNs, controlPhase}
 use Rattle.book.specs.declared.config.Config.{Config}
 use Rattle.book.specs.declared.config.KernelTick.{KernelTick}
-use Rattle.book.specs.declared.observed.Observed.{Observed}
-use Rattle.book.specs.declared.observed.ObservedPut.{ObservedPut}
-use Rattle.book.specs.declared.state.Clock.{Clock}
-use Rattle.book.specs.declared.state.Control.{Control}
-use Rattle.book.specs.declared.state.GateState.{GateState}
-use Rattle.book.specs.declared.state.HaltReason.the-variants.{LedgerOverflow, TimeOverflow, CounterOverflow}
-use Rattle.book.specs.declared.state.KernelEvent.the-variants.{RowEnd}
-use Rattle.book.specs.declared.state.KernelState.{KernelState}
-use Rattle.book.specs.declared.state.Phase.the-variants.{BeforeMatch, ObsQueued, AwaitDecision, Terminal}
+use Rattle.observed.specs.declared.Observed.{Observed}
+use Rattle.observed.specs.declared.ObservedPut.{ObservedPut}
+use Rattle.state.specs.declared.Clock.{Clock}
+use Rattle.state.specs.declared.Control.{Control}
+use Rattle.state.specs.declared.GateState.{GateState}
+use Rattle.state.specs.declared.HaltReason.the-variants.{LedgerOverflow, TimeOverflow, CounterOverflow}
+use Rattle.state.specs.declared.KernelEvent.the-variants.{RowEnd}
+use Rattle.state.specs.declared.KernelState.{KernelState}
+use Rattle.state.specs.declared.Phase.the-variants.{BeforeMatch, ObsQueued, AwaitDecision, Terminal}
 use Rattle.models.specs.Rules.{ruleDelay}
 use Rattle.models.specs.declared.latency.Arrival.{Arrival}
 use Rattle.rules.specs.Run as rules

@@ -3,16 +3,16 @@ use Prim.Native.Nat.{ℕ}
 use mathlib.Core.List.{List}
 use mathlib.Core.Option.{Option, none, some}
 use Rattle.lists.specs.Lists.{onSome}
-use Rattle.book.specs.With.{withControl, withClock, withRngLatency, withObserved}
+use Rattle.state.specs.With.{withControl, withClock, withRngLatency, withObserved}
 use Rattle.book.specs.declared.config.Config.{Config}
 use Rattle.book.specs.declared.config.KernelTick.{KernelTick}
 use Rattle.book.specs.declared.config.MaybeTick.{MaybeTick}
 use Rattle.book.specs.declared.config.MaybeTick.the-variants as tick
-use Rattle.book.specs.declared.observed.Observed.{Observed}
-use Rattle.book.specs.declared.state.Clock.{Clock}
-use Rattle.book.specs.declared.state.Control.{Control}
-use Rattle.book.specs.declared.state.HaltReason.the-variants.{CounterOverflow}
-use Rattle.book.specs.declared.state.KernelState.{KernelState}
+use Rattle.observed.specs.declared.Observed.{Observed}
+use Rattle.state.specs.declared.Clock.{Clock}
+use Rattle.state.specs.declared.Control.{Control}
+use Rattle.state.specs.declared.HaltReason.the-variants.{CounterOverflow}
+use Rattle.state.specs.declared.KernelState.{KernelState}
 use Rattle.rules.specs.Run.{Run, ranTo, haltAt, andThen, Turn, again, last}
 use Rattle.rules.specs.Delivery.{endOfData}
 use Rattle.rules.specs.Phases.{matchPhase, settleRow, nextRow}

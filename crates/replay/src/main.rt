@@ -1,6 +1,5 @@
 // Replays run files: those that the arguments name, or `run.txt`. What is printed of them is `lines`' and `day`'s to say; here are only files and loops.
 use book::config::Config;
-use book::state::KernelState;
 use day::Turned;
 use day::put_end;
 use day::turn;
@@ -8,6 +7,7 @@ use libc::STDOUT_FILENO;
 use lines::put_bad;
 use numbers::MaybeU64;
 use runtext::read::read;
+use state::KernelState;
 
 // The first n bytes. False where they cannot be written.
 fn print(out: &[u8], n: usize) -> bool {

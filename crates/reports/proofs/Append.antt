@@ -13,8 +13,8 @@ use mir.Val.{Fits}
 use mir.Syntax.{w64}
 use mathlib.Core.Bool.{Bool, true, false}
 use Rattle.numbers.specs.Choice.{pick}
-use Rattle.book.specs.declared.state.KernelEvent.{KernelEvent}
-use Rattle.book.specs.declared.state.KernelEvent.the-variants.{Report, Fill, Delivered, Observed, RowEnd, EndOfData, Halted, DroppedMsg, Expired, DroppedExpiry}
+use Rattle.state.specs.declared.KernelEvent.{KernelEvent}
+use Rattle.state.specs.declared.KernelEvent.the-variants.{Report, Fill, Delivered, Observed, RowEnd, EndOfData, Halted, DroppedMsg, Expired, DroppedExpiry}
 use Rattle.rules.specs.Log.{eventWords, written}
 use Rattle.reports.specs.Log.{top, Log, logAt, appendEvent, appendEvents}
 

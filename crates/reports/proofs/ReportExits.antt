@@ -8,18 +8,18 @@ use Rattle.numbers.specs.Words.{fitting, onWord}
 use Rattle.numbers.specs.declared.MaybeU64.{MaybeU64}
 use Rattle.numbers.specs.declared.MaybeU64.the-variants.{None, Some}
 use Rattle.lists.specs.Lists.{pushed}
-use Rattle.book.specs.Rows.{deliveriesRow, deliveriesPut}
-use Rattle.book.specs.With.{withSeqs, withDeliveries, seqsStampSeq, clockLastDeliveryNs}
+use Rattle.deliveries.specs.Rows.{deliveriesRow, deliveriesPut}
+use Rattle.state.specs.With.{withSeqs, withDeliveries, seqsStampSeq, clockLastDeliveryNs}
 use Rattle.book.specs.declared.MaybeFill.{MaybeFill}
 use Rattle.book.specs.declared.ReportRec.{ReportRec}
 use Rattle.book.specs.declared.config.Config.{Config}
-use Rattle.book.specs.declared.deliveries.Deliveries.{Deliveries}
-use Rattle.book.specs.declared.deliveries.DeliveriesPut.{DeliveriesPut}
-use Rattle.book.specs.declared.state.Clock.{Clock}
-use Rattle.book.specs.declared.state.HaltReason.the-variants.{TimeOverflow, CounterOverflow}
-use Rattle.book.specs.declared.state.KernelEvent.the-variants.{Report}
-use Rattle.book.specs.declared.state.KernelState.{KernelState}
-use Rattle.book.specs.declared.state.Seqs.{Seqs}
+use Rattle.deliveries.specs.declared.Deliveries.{Deliveries}
+use Rattle.deliveries.specs.declared.DeliveriesPut.{DeliveriesPut}
+use Rattle.state.specs.declared.Clock.{Clock}
+use Rattle.state.specs.declared.HaltReason.the-variants.{TimeOverflow, CounterOverflow}
+use Rattle.state.specs.declared.KernelEvent.the-variants.{Report}
+use Rattle.state.specs.declared.KernelState.{KernelState}
+use Rattle.state.specs.declared.Seqs.{Seqs}
 use Rattle.models.specs.Rules.{ruleDelay}
 use Rattle.models.specs.declared.latency.Arrival.{Arrival}
 use Rattle.rules.specs.Run as rules

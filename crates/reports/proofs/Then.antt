@@ -13,14 +13,14 @@ use Rattle.numbers.specs.declared.MaybeU64.{MaybeU64}
 use Rattle.numbers.specs.declared.MaybeU64.the-variants.{None, Some}
 use Rattle.lists.specs.Lists.{Row, Taken, onSome}
 use Rattle.lists.proofs.Cases.{pick-case}
-use Rattle.book.specs.With.{withSeqs}
+use Rattle.state.specs.With.{withSeqs}
 use Rattle.book.specs.declared.MaybeFill.the-variants as fill
 use Rattle.book.specs.declared.ReportRec.{ReportRec}
 use Rattle.book.specs.declared.config.Config.{Config}
-use Rattle.book.specs.declared.state.HaltReason.{HaltReason}
-use Rattle.book.specs.declared.state.KernelEvent.{KernelEvent}
-use Rattle.book.specs.declared.state.KernelState.{KernelState}
-use Rattle.book.specs.declared.state.Seqs.{Seqs}
+use Rattle.state.specs.declared.HaltReason.{HaltReason}
+use Rattle.state.specs.declared.KernelEvent.{KernelEvent}
+use Rattle.state.specs.declared.KernelState.{KernelState}
+use Rattle.state.specs.declared.Seqs.{Seqs}
 use Rattle.rules.specs.Run as rules
 use Rattle.rules.specs.Report.{stamp, queueDelivery}
 use Rattle.rules.proofs.Cases.{word-case}

@@ -4,9 +4,9 @@ use mathlib.Core.List.{List, [], _∷_, _++_}
 use lib.Dec.{ltb}
 use lib.ListN.{take, drop}
 use Rattle.numbers.specs.Choice.{pick}
-use Rattle.book.specs.With.{withSeqs, seqsStampSeq}
-use Rattle.book.specs.declared.state.KernelEvent.{KernelEvent}
-use Rattle.book.specs.declared.state.KernelState.{KernelState}
+use Rattle.state.specs.With.{withSeqs, seqsStampSeq}
+use Rattle.state.specs.declared.KernelEvent.{KernelEvent}
+use Rattle.state.specs.declared.KernelState.{KernelState}
 use Rattle.rules.specs.Run as rules
 use Rattle.rules.specs.Log.{written}
 use Rattle.reports.specs.declared.Outcome.{Outcome}

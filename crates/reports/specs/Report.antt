@@ -1,9 +1,9 @@
 -- The parts of the state that a stamp, a report and its delivery change.
 use Prim.Native.Nat.{ℕ}
-use Rattle.book.specs.With.{withClock, withRngLatency, withSeqs, withDeliveries}
-use Rattle.book.specs.declared.deliveries.Deliveries.{Deliveries}
-use Rattle.book.specs.declared.state.Clock.{Clock}
-use Rattle.book.specs.declared.state.KernelState.{KernelState}
+use Rattle.state.specs.With.{withClock, withRngLatency, withSeqs, withDeliveries}
+use Rattle.deliveries.specs.declared.Deliveries.{Deliveries}
+use Rattle.state.specs.declared.Clock.{Clock}
+use Rattle.state.specs.declared.KernelState.{KernelState}
 use Rattle.rules.specs.Run.{raised}
 use Rattle.reports.specs.declared.Step.{Step}
 use Rattle.reports.specs.declared.report.Queued.{Queued}

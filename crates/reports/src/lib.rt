@@ -2,8 +2,8 @@
 pub mod log;
 pub mod report;
 
-use book::state::HaltReason;
-use book::state::KernelState;
+use state::HaltReason;
+use state::KernelState;
 
 // How a step went: to its end; left by an observation that paused or truncated; halted; or at the end of the data.
 pub enum Outcome {

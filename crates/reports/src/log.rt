@@ -2,7 +2,7 @@
 use book::FillRec;
 use book::ReportRec;
 use book::flag_number;
-use book::state::KernelEvent;
+use state::KernelEvent;
 ghost use mathlib.Core.Path.{_≡_};
 ghost use mathlib.Core.List.{[], _∷_};
 ghost use Rattle.rules.specs.Log.{reportWords, fillWords, shortWords, eventWords, written};

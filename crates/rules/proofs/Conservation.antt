@@ -16,8 +16,8 @@ use Rattle.book.specs.declared.Side.the-variants.{Buy, Sell}
 use Rattle.book.specs.declared.VenueMsg.{VenueMsg}
 use Rattle.book.specs.declared.VenueOrder.{VenueOrder}
 use Rattle.book.specs.declared.config.Config.{Config}
-use Rattle.book.specs.declared.state.KernelState.{KernelState}
-use Rattle.book.specs.declared.state.Phase.the-variants.{Terminal}
+use Rattle.state.specs.declared.KernelState.{KernelState}
+use Rattle.state.specs.declared.Phase.the-variants.{Terminal}
 use Rattle.rules.specs.Run.{Outcome, Run, ran, left, halt, ended, ranTo, iter}
 use Rattle.rules.specs.Phases.{phaseTurn, phases}
 use Rattle.rules.specs.Calls.{Did, refused, stays, halts, ends, Answer, refuse, answerOn, answer, countsFit, advance, isPaused, canResume, passed, pass}

@@ -9,15 +9,15 @@ use lib.ListN.{length, length-append, length-take}
 use borrow.Author.Tests.{leb-true}
 use Rattle.lists.specs.Lists.{below, total}
 use Rattle.lists.proofs.Cases.{pick-case}
-use Rattle.book.specs.Rows.{msgsRow}
+use Rattle.msgs.specs.Rows.{msgsRow}
 use Rattle.book.specs.declared.MsgKind.{MsgKind}
 use Rattle.book.specs.declared.MsgKind.the-variants.{Cancel, Activate, Expire}
 use Rattle.book.specs.declared.VenueMsg.{VenueMsg}
 use Rattle.book.specs.declared.config.Config.{Config}
-use Rattle.book.specs.declared.state.KernelEvent.the-variants.{Halted}
-use Rattle.book.specs.declared.state.KernelState.{KernelState}
-use Rattle.book.specs.declared.state.Phase.{Phase}
-use Rattle.book.specs.declared.state.Phase.the-variants.{BeforeMatch, ObsQueued, AwaitDecision, Terminal}
+use Rattle.state.specs.declared.KernelEvent.the-variants.{Halted}
+use Rattle.state.specs.declared.KernelState.{KernelState}
+use Rattle.state.specs.declared.Phase.{Phase}
+use Rattle.state.specs.declared.Phase.the-variants.{BeforeMatch, ObsQueued, AwaitDecision, Terminal}
 use Rattle.rules.specs.Run.{Outcome, Run, ran, left, halt, ended}
 use Rattle.rules.specs.Events.{extraKind, extra}
 use Rattle.rules.specs.Phases.{onPhase, phaseTurn, turns, phases}

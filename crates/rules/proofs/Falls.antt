@@ -8,8 +8,11 @@ use Rattle.lists.specs.Lists.{Row, below, total}
 use Rattle.lists.proofs.Cases.{pick-case, some-case}
 use Rattle.lists.proofs.Sums.{Took, take-case, entry-case}
 use Rattle.book.specs.Entries.{blankOrder, blankMsg, blankDelivery, blankObs}
-use Rattle.book.specs.Rows.{ordersRow, ordersOf, msgsRow, msgsOf, deliveriesRow, observedRow}
-use Rattle.book.specs.With.{withOrders, withMsgs}
+use Rattle.orders.specs.Rows.{ordersRow, ordersOf}
+use Rattle.msgs.specs.Rows.{msgsRow, msgsOf}
+use Rattle.deliveries.specs.Rows.{deliveriesRow}
+use Rattle.observed.specs.Rows.{observedRow}
+use Rattle.state.specs.With.{withOrders, withMsgs}
 use Rattle.book.specs.declared.Delivery.{Delivery}
 use Rattle.book.specs.declared.ExecKind.the-variants as exec
 use Rattle.book.specs.declared.MaybeFill.{MaybeFill}
@@ -20,10 +23,10 @@ use Rattle.book.specs.declared.ReportRec.{ReportRec}
 use Rattle.book.specs.declared.VenueMsg.{VenueMsg}
 use Rattle.book.specs.declared.VenueOrder.{VenueOrder}
 use Rattle.book.specs.declared.config.Config.{Config}
-use Rattle.book.specs.declared.msgs.Msgs.{Msgs}
-use Rattle.book.specs.declared.state.KernelEvent.{KernelEvent}
-use Rattle.book.specs.declared.state.KernelState.{KernelState}
-use Rattle.book.specs.declared.state.Phase.{Phase}
+use Rattle.msgs.specs.declared.Msgs.{Msgs}
+use Rattle.state.specs.declared.KernelEvent.{KernelEvent}
+use Rattle.state.specs.declared.KernelState.{KernelState}
+use Rattle.state.specs.declared.Phase.{Phase}
 use Rattle.numbers.specs.declared.MaybeU64.{MaybeU64}
 use Rattle.rules.specs.Run.{Run, ran, ranTo, raised, andThen, again, last}
 use Rattle.rules.specs.Report.{stamp, delayed, pushDelivery, reported, queueDelivery, reportOn}

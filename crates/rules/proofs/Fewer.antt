@@ -9,15 +9,16 @@ use borrow.Author.Tests.{ltb-true}
 use Rattle.lists.specs.Lists.{Row, Put, live, below, storeAt}
 use Rattle.lists.proofs.Cases.{pick-case}
 use Rattle.lists.proofs.Sums.{store-case}
-use Rattle.book.specs.Rows.{ordersRow, ordersOf, msgsRow}
-use Rattle.book.specs.With.{withOrders}
+use Rattle.orders.specs.Rows.{ordersRow, ordersOf}
+use Rattle.msgs.specs.Rows.{msgsRow}
+use Rattle.state.specs.With.{withOrders}
 use Rattle.book.specs.declared.VenueOrder.{VenueOrder}
 use Rattle.book.specs.declared.config.Config.{Config}
 use Rattle.book.specs.declared.config.KernelTick.{KernelTick}
-use Rattle.book.specs.declared.state.KernelEvent.{KernelEvent}
-use Rattle.book.specs.declared.state.KernelState.{KernelState}
-use Rattle.book.specs.declared.state.Phase.{Phase}
-use Rattle.book.specs.declared.state.Phase.the-variants.{BeforeMatch, ObsQueued, AwaitDecision, Terminal}
+use Rattle.state.specs.declared.KernelEvent.{KernelEvent}
+use Rattle.state.specs.declared.KernelState.{KernelState}
+use Rattle.state.specs.declared.Phase.{Phase}
+use Rattle.state.specs.declared.Phase.the-variants.{BeforeMatch, ObsQueued, AwaitDecision, Terminal}
 use Rattle.rules.specs.Run.{Run, ran, ended, after, andThen, again, last}
 use Rattle.rules.specs.Report.{delayed}
 use Rattle.rules.specs.Matching.{filledBy, fillCounted, fillEvent, fillAt, Fills, no-fill, fills, fails, fillsAt, filling, matchAt, matchFrom, leave, sweepFrom, sweep, matchRow}

@@ -6,12 +6,12 @@ use Rattle.numbers.specs.Choice.{pick}
 use Rattle.numbers.specs.Words.{fits, fitting, onWord}
 use Rattle.numbers.specs.declared.MaybeU64.the-variants.{None}
 use Rattle.lists.proofs.Cases.{pick-case, some-case}
-use Rattle.book.specs.With.{withSeqs, seqsStampSeq}
+use Rattle.state.specs.With.{withSeqs, seqsStampSeq}
 use Rattle.book.specs.declared.VenueOrder.{VenueOrder}
 use Rattle.book.specs.declared.config.Config.{Config}
-use Rattle.book.specs.declared.state.HaltReason.{HaltReason}
-use Rattle.book.specs.declared.state.HaltReason.the-variants.{LedgerOverflow, CounterOverflow}
-use Rattle.book.specs.declared.state.KernelState.{KernelState}
+use Rattle.state.specs.declared.HaltReason.{HaltReason}
+use Rattle.state.specs.declared.HaltReason.the-variants.{LedgerOverflow, CounterOverflow}
+use Rattle.state.specs.declared.KernelState.{KernelState}
 use Rattle.rules.specs.Run.{Run, halt, andThen}
 use Rattle.rules.specs.Report.{stamp, delayedTime}
 use Rattle.rules.specs.Matching.{gateFilled, fillEvent, fillAt}

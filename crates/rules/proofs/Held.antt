@@ -10,17 +10,19 @@ use lib.IntN.{ℤ}
 use Rattle.lists.specs.Lists.{below, onSome, total}
 use Rattle.lists.proofs.Cases.{pick-case}
 use Rattle.book.specs.Entries.{blankOrder, onSide, remaining, isTerminal}
-use Rattle.book.specs.Rows.{ordersRow, msgsRow, deliveriesRow}
+use Rattle.orders.specs.Rows.{ordersRow}
+use Rattle.msgs.specs.Rows.{msgsRow}
+use Rattle.deliveries.specs.Rows.{deliveriesRow}
 use Rattle.book.specs.declared.Side.{Side}
 use Rattle.book.specs.declared.Side.the-variants.{Buy, Sell}
 use Rattle.book.specs.declared.VenueMsg.{VenueMsg}
 use Rattle.book.specs.declared.VenueOrder.{VenueOrder}
-use Rattle.book.specs.declared.deliveries.Deliveries.{Deliveries}
-use Rattle.book.specs.declared.msgs.Msgs.{Msgs}
-use Rattle.book.specs.declared.orders.Orders.{Orders}
-use Rattle.book.specs.declared.state.GateState.{GateState}
-use Rattle.book.specs.declared.state.KernelState.{KernelState}
-use Rattle.book.specs.declared.state.Phase.the-variants.{Terminal}
+use Rattle.deliveries.specs.declared.Deliveries.{Deliveries}
+use Rattle.msgs.specs.declared.Msgs.{Msgs}
+use Rattle.orders.specs.declared.Orders.{Orders}
+use Rattle.state.specs.declared.GateState.{GateState}
+use Rattle.state.specs.declared.KernelState.{KernelState}
+use Rattle.state.specs.declared.Phase.the-variants.{Terminal}
 use Rattle.rules.specs.Run.{Run}
 use Rattle.rules.specs.Messages.{released}
 use Rattle.rules.specs.Matching.{gateFilled}

@@ -8,14 +8,15 @@ use Rattle.lists.specs.Lists.{Row, live, total}
 use Rattle.lists.proofs.Sums.{Took}
 use Rattle.lists.proofs.Totals.{live-below}
 use Rattle.book.specs.Entries.{blankDelivery}
-use Rattle.book.specs.Rows.{msgsRow, deliveriesRow, deliveriesOf}
-use Rattle.book.specs.With.{withDeliveries}
+use Rattle.msgs.specs.Rows.{msgsRow}
+use Rattle.deliveries.specs.Rows.{deliveriesRow, deliveriesOf}
+use Rattle.state.specs.With.{withDeliveries}
 use Rattle.book.specs.declared.Delivery.{Delivery}
 use Rattle.book.specs.declared.MaybeFill.{MaybeFill}
 use Rattle.book.specs.declared.MaybeFill.the-variants as fill
 use Rattle.book.specs.declared.ReportRec.{ReportRec}
 use Rattle.book.specs.declared.Side.the-variants.{Buy, Sell}
-use Rattle.book.specs.declared.state.KernelState.{KernelState}
+use Rattle.state.specs.declared.KernelState.{KernelState}
 use Rattle.rules.specs.Delivery.{countFill, moveAgent, countReject, deliverNext, deliverAll, droppedEvent, emptyQueues, closeData, endOfData}
 use Rattle.rules.specs.Conservation.{carriedOn, recordedBy, recordedOn, Closed}
 use Rattle.rules.proofs.Cases.{moved-case}

@@ -15,18 +15,18 @@ use Rattle.lists.proofs.Cases.{pick-case}
 use Rattle.lists.proofs.Sums.{entry-case, total-none, there, Took}
 use Rattle.lists.proofs.Totals.{Stored, stored, front-all, front-more, front-same}
 use Rattle.book.specs.Entries.{blankOrder, remaining, isTerminal}
-use Rattle.book.specs.Rows.{ordersRow, ordersOf}
-use Rattle.book.specs.With.{withSeqs, withOrders, withGate, seqsStampSeq}
+use Rattle.orders.specs.Rows.{ordersRow, ordersOf}
+use Rattle.state.specs.With.{withSeqs, withOrders, withGate, seqsStampSeq}
 use Rattle.book.specs.declared.OrderState.{OrderState}
 use Rattle.book.specs.declared.VenueOrder.{VenueOrder}
 use Rattle.book.specs.declared.config.Config.{Config}
 use Rattle.book.specs.declared.config.FillMode.{FillMode}
 use Rattle.book.specs.declared.config.FillMode.the-variants.{Immediate, QueuePosition}
 use Rattle.book.specs.declared.config.KernelTick.{KernelTick}
-use Rattle.book.specs.declared.orders.Orders.{Orders}
+use Rattle.orders.specs.declared.Orders.{Orders}
 use Rattle.numbers.specs.Choice.{pick}
 use Rattle.numbers.specs.Words.{onWord}
-use Rattle.book.specs.declared.state.KernelState.{KernelState}
+use Rattle.state.specs.declared.KernelState.{KernelState}
 use Rattle.rules.specs.Messages.{removeExpiry}
 use Rattle.rules.specs.Matching.{lotsOf, queueFillLots, fillLots, filledBy, fillCounted, fillEvent, fillAt, Fills, no-fill, fills, fails, fillsOf, fillsAt, filling, matchAt, matchFrom, leave, terminalAt, sweepFrom, sweep, gateMarked, matchRow}
 use Rattle.rules.specs.Conservation.{ofSide, lotsOn}

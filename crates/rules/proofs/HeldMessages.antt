@@ -9,8 +9,9 @@ use Rattle.lists.specs.Lists.{Row}
 use Rattle.lists.proofs.Cases.{some-case}
 use Rattle.lists.proofs.Sums.{take-case, found-live, Took}
 use Rattle.book.specs.Entries.{blankOrder, blankMsg, expires, isExpiry}
-use Rattle.book.specs.Rows.{ordersRow, ordersOf, msgsRow, msgsOf}
-use Rattle.book.specs.With.{withOrders, withMsgs}
+use Rattle.orders.specs.Rows.{ordersRow, ordersOf}
+use Rattle.msgs.specs.Rows.{msgsRow, msgsOf}
+use Rattle.state.specs.With.{withOrders, withMsgs}
 use Rattle.book.specs.declared.Delivery.{Delivery}
 use Rattle.book.specs.declared.MaybeFill.{MaybeFill}
 use Rattle.book.specs.declared.MaybeFill.the-variants as fill
@@ -22,7 +23,7 @@ use Rattle.book.specs.declared.Side.the-variants.{Buy, Sell}
 use Rattle.book.specs.declared.VenueMsg.{VenueMsg}
 use Rattle.book.specs.declared.VenueOrder.{VenueOrder}
 use Rattle.book.specs.declared.config.Config.{Config}
-use Rattle.book.specs.declared.state.KernelState.{KernelState}
+use Rattle.state.specs.declared.KernelState.{KernelState}
 use Rattle.rules.specs.Run.{ranTo, andThen}
 use Rattle.rules.specs.Report.{pushDelivery, reported, queueDelivery}
 use Rattle.rules.specs.Messages.{release, book, schedule, removeExpiry, scheduleExpiry, accept, reject, activate, activation, cancelBooked, onActivation, cancelPending, cancelAwaiting, cancel, expireBooked, expire, acts, applyNextMsg}

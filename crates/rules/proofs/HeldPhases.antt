@@ -4,9 +4,9 @@ use mathlib.Core.List.{List}
 use native.Mathlib.Omega.{arith}
 use Rattle.book.specs.declared.config.Config.{Config}
 use Rattle.book.specs.declared.config.KernelTick.{KernelTick}
-use Rattle.book.specs.declared.state.KernelState.{KernelState}
-use Rattle.book.specs.declared.state.Phase.{Phase}
-use Rattle.book.specs.declared.state.Phase.the-variants.{BeforeMatch, ObsQueued, AwaitDecision, Terminal}
+use Rattle.state.specs.declared.KernelState.{KernelState}
+use Rattle.state.specs.declared.Phase.{Phase}
+use Rattle.state.specs.declared.Phase.the-variants.{BeforeMatch, ObsQueued, AwaitDecision, Terminal}
 use Rattle.rules.specs.Events.{popObservation, Class, venue, delivery, observation, Next, nothing, next, nextOf, handle, turnOn, eventTurn, runEvents}
 use Rattle.rules.specs.Phases.{queueObservation, matchPhase, beforeMatch, settleRow, settle, nextRow, obsQueued, onPhase, phaseTurn, phases}
 use Rattle.rules.proofs.Loop.{runOf}

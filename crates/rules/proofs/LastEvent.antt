@@ -15,7 +15,7 @@ use Rattle.numbers.specs.declared.position.Moved.the-variants.{Out, To}
 use Rattle.numbers.specs.declared.position.Position.{Position}
 use Rattle.lists.specs.Lists.{Row, Put, Taken, onSome, live}
 use Rattle.lists.proofs.Cases.{pick-case, some-case}
-use Rattle.book.specs.Rows.{msgsRow}
+use Rattle.msgs.specs.Rows.{msgsRow}
 use Rattle.book.specs.declared.MaybeFill.{MaybeFill}
 use Rattle.book.specs.declared.MaybeFill.the-variants as fill
 use Rattle.book.specs.declared.MsgKind.{MsgKind}
@@ -25,12 +25,12 @@ use Rattle.book.specs.declared.VenueMsg.{VenueMsg}
 use Rattle.book.specs.declared.VenueOrder.{VenueOrder}
 use Rattle.book.specs.declared.config.Config.{Config}
 use Rattle.book.specs.declared.config.KernelTick.{KernelTick}
-use Rattle.book.specs.declared.state.HaltReason.{HaltReason}
-use Rattle.book.specs.declared.state.KernelEvent.{KernelEvent}
-use Rattle.book.specs.declared.state.KernelEvent.the-variants.{Report, Fill, Delivered, Observed, RowEnd, EndOfData, Halted, DroppedMsg, Expired, DroppedExpiry}
-use Rattle.book.specs.declared.state.KernelState.{KernelState}
-use Rattle.book.specs.declared.state.Phase.{Phase}
-use Rattle.book.specs.declared.state.Phase.the-variants.{BeforeMatch, ObsQueued, AwaitDecision, Terminal}
+use Rattle.state.specs.declared.HaltReason.{HaltReason}
+use Rattle.state.specs.declared.KernelEvent.{KernelEvent}
+use Rattle.state.specs.declared.KernelEvent.the-variants.{Report, Fill, Delivered, Observed, RowEnd, EndOfData, Halted, DroppedMsg, Expired, DroppedExpiry}
+use Rattle.state.specs.declared.KernelState.{KernelState}
+use Rattle.state.specs.declared.Phase.{Phase}
+use Rattle.state.specs.declared.Phase.the-variants.{BeforeMatch, ObsQueued, AwaitDecision, Terminal}
 use Rattle.rules.specs.Run.{Outcome, Run, ran, left, halt, ended, ranTo, raised, haltAt, onRan, after, andThen, putting, taking, Turn, again, last, onTurn, iter}
 use Rattle.rules.specs.Report.{stamp, delayed, pushDelivery, reported, queueDelivery}
 use Rattle.rules.specs.Messages.{release, await, awaitMarked, book, schedule, scheduleExpiry, accept, reject, activate, activation, cancelBooked, onActivation, cancelPending, cancelAwaiting, cancel, expireBooked, expire, acts, applyNextMsg}

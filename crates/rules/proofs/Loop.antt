@@ -2,7 +2,7 @@
 use Prim.Native.Nat.{ℕ, zero, suc, _<_}
 use mathlib.Core.Path.{_≡_, refl, ap}
 use native.Mathlib.Omega.{arith}
-use Rattle.book.specs.declared.state.KernelState.{KernelState}
+use Rattle.state.specs.declared.KernelState.{KernelState}
 use Rattle.rules.specs.Run.{Outcome, Run, ran, left, halt, ended, onRan, after, andThen, Turn, again, last, onTurn, iter}
 
 -- the run of a turn, the last or not

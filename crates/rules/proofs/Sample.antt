@@ -12,7 +12,9 @@ use Rattle.numbers.specs.Position.{ranged, raisedBy, loweredBy, onMoved}
 use Rattle.numbers.specs.declared.MaybeU64.the-variants as u64
 use Rattle.lists.specs.Lists.{onSome, live, insertAt, removeAt, before, foundIn, placed, without, putAt, takeAt, entryAt, storeAt, emptied, total}
 use Rattle.book.specs.Entries.{blankMsg, blankOpen, onSide}
-use Rattle.book.specs.Rows.{emptyOrders, emptyDeliveries, emptyObserved}
+use Rattle.orders.specs.Rows.{emptyOrders}
+use Rattle.deliveries.specs.Rows.{emptyDeliveries}
+use Rattle.observed.specs.Rows.{emptyObserved}
 use Rattle.book.specs.declared.ExecKind.{ExecKind}
 use Rattle.book.specs.declared.ExecKind.the-variants as exec
 use Rattle.book.specs.declared.MsgKind.the-variants.{Activate}
@@ -24,11 +26,11 @@ use Rattle.book.specs.declared.Side.the-variants.{Buy, Sell}
 use Rattle.book.specs.declared.VenueOrder.{VenueOrder}
 use Rattle.book.specs.declared.config.Config.{Config}
 use Rattle.book.specs.declared.config.FillMode.the-variants.{Immediate}
-use Rattle.book.specs.declared.state.KernelEvent.{KernelEvent}
-use Rattle.book.specs.declared.state.KernelEvent.the-variants.{Report, Fill, Delivered, Observed, RowEnd, EndOfData}
-use Rattle.book.specs.declared.state.KernelState.{KernelState}
-use Rattle.book.specs.declared.state.Phase.the-variants.{ObsQueued}
-use Rattle.book.specs.declared.state.Status.the-variants.{Running}
+use Rattle.state.specs.declared.KernelEvent.{KernelEvent}
+use Rattle.state.specs.declared.KernelEvent.the-variants.{Report, Fill, Delivered, Observed, RowEnd, EndOfData}
+use Rattle.state.specs.declared.KernelState.{KernelState}
+use Rattle.state.specs.declared.Phase.the-variants.{ObsQueued}
+use Rattle.state.specs.declared.Status.the-variants.{Running}
 use Rattle.rules.specs.Run.{andThen, putting, taking, iter}
 use Rattle.rules.specs.Generator.{nextState, output, draw}
 use Rattle.rules.specs.Report.{stamp, delayedTime, delay, delayed, pushDelivery, reported, queueDelivery}

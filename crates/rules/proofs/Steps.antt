@@ -1,14 +1,14 @@
 -- Stamps, delays, reports and orders that await: what they keep, of any property. Assumes nothing.
 use Prim.Native.Nat.{ℕ}
 use mathlib.Core.List.{List}
-use Rattle.book.specs.Rows.{ordersOf}
-use Rattle.book.specs.With.{withSeqs, withRngLatency, withAwaiting, seqsStampSeq}
+use Rattle.orders.specs.Rows.{ordersOf}
+use Rattle.state.specs.With.{withSeqs, withRngLatency, withAwaiting, seqsStampSeq}
 use Rattle.book.specs.declared.VenueMsg.{VenueMsg}
 use Rattle.book.specs.declared.VenueOrder.{VenueOrder}
 use Rattle.book.specs.declared.config.Config.{Config}
-use Rattle.book.specs.declared.orders.Orders.{Orders}
-use Rattle.book.specs.declared.state.HaltReason.the-variants.{CounterOverflow}
-use Rattle.book.specs.declared.state.KernelState.{KernelState}
+use Rattle.orders.specs.declared.Orders.{Orders}
+use Rattle.state.specs.declared.HaltReason.the-variants.{CounterOverflow}
+use Rattle.state.specs.declared.KernelState.{KernelState}
 use Rattle.rules.specs.Run.{Run, andThen}
 use Rattle.rules.specs.Report.{stamp, delayed}
 use Rattle.rules.specs.Messages.{await, awaitMarked}

@@ -7,16 +7,16 @@ use lib.ListN.{length}
 use Rattle.numbers.specs.Choice.{pick}
 use Rattle.numbers.specs.Words.{fitting, onWord}
 use Rattle.book.specs.Capacities.{ordersCapacity, msgsCapacity, deliveriesCapacity, observedCapacity, accountCapacity}
-use Rattle.book.specs.With.{withControl, withCounters, controlPhase, controlStep, controlStatus, countersHalts}
+use Rattle.state.specs.With.{withControl, withCounters, controlPhase, controlStep, controlStatus, countersHalts}
 use Rattle.book.specs.declared.VenueMsg.{VenueMsg}
 use Rattle.book.specs.declared.config.Config.{Config}
-use Rattle.book.specs.declared.state.HaltReason.{HaltReason}
-use Rattle.book.specs.declared.state.KernelEvent.{KernelEvent}
-use Rattle.book.specs.declared.state.KernelEvent.the-variants.{Halted}
-use Rattle.book.specs.declared.state.KernelState.{KernelState}
-use Rattle.book.specs.declared.state.Phase.{Phase}
-use Rattle.book.specs.declared.state.Phase.the-variants.{BeforeMatch, ObsQueued, AwaitDecision, Terminal}
-use Rattle.book.specs.declared.state.Status.the-variants as status
+use Rattle.state.specs.declared.HaltReason.{HaltReason}
+use Rattle.state.specs.declared.KernelEvent.{KernelEvent}
+use Rattle.state.specs.declared.KernelEvent.the-variants.{Halted}
+use Rattle.state.specs.declared.KernelState.{KernelState}
+use Rattle.state.specs.declared.Phase.{Phase}
+use Rattle.state.specs.declared.Phase.the-variants.{BeforeMatch, ObsQueued, AwaitDecision, Terminal}
+use Rattle.state.specs.declared.Status.the-variants as status
 use Rattle.rules.specs.Run.{Outcome, Run, ran, left, halt, ended}
 use Rattle.rules.specs.Log.{written}
 use Rattle.rules.specs.Phases.{phases}

@@ -6,7 +6,9 @@ use mathlib.Core.Path.{_≡_}
 use lib.IntN.{pos, _-ℤ_}
 use Rattle.lists.specs.Lists.{below, total}
 use Rattle.book.specs.Entries.{onSide, remaining, isTerminal}
-use Rattle.book.specs.Rows.{ordersRow, msgsRow, deliveriesRow}
+use Rattle.orders.specs.Rows.{ordersRow}
+use Rattle.msgs.specs.Rows.{msgsRow}
+use Rattle.deliveries.specs.Rows.{deliveriesRow}
 use Rattle.book.specs.declared.Delivery.{Delivery}
 use Rattle.book.specs.declared.MaybeFill.{MaybeFill}
 use Rattle.book.specs.declared.MaybeFill.the-variants as fill
@@ -17,7 +19,7 @@ use Rattle.book.specs.declared.Side.the-variants.{Buy, Sell}
 use Rattle.book.specs.declared.VenueMsg.{VenueMsg}
 use Rattle.book.specs.declared.VenueOrder.{VenueOrder}
 use Rattle.book.specs.declared.config.Config.{Config}
-use Rattle.book.specs.declared.state.KernelState.{KernelState}
+use Rattle.state.specs.declared.KernelState.{KernelState}
 use Rattle.rules.specs.Messages.{liveLots}
 use Rattle.rules.specs.Calls.{Did, refused, stays, halts, ends, Answer, advance, pass, Result, returned}
 

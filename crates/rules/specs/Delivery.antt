@@ -8,8 +8,11 @@ use Rattle.numbers.specs.Position.{onMoved}
 use Rattle.lists.specs.Lists.{onSome, live, foundIn, takeAt, popped, storeAt, emptied}
 use Rattle.book.specs.Capacities.{msgsCapacity, deliveriesCapacity, observedCapacity, accountCapacity}
 use Rattle.book.specs.Entries.{blankMsg, blankDelivery, blankObs, blankOpen, isOpenOf}
-use Rattle.book.specs.Rows.{msgsRow, msgsOf, deliveriesRow, deliveriesOf, observedRow, observedOf, accountRow, accountOf}
-use Rattle.book.specs.With.{withControl, withMsgs, withDeliveries, withObserved, withAgent, withAccount, withCounters, controlPhase, controlStatus, agentPos, agentDeliveredFills, agentDeliveredLocalRejects, countersEofDroppedMsgs, countersEofDroppedObs}
+use Rattle.msgs.specs.Rows.{msgsRow, msgsOf}
+use Rattle.deliveries.specs.Rows.{deliveriesRow, deliveriesOf}
+use Rattle.observed.specs.Rows.{observedRow, observedOf}
+use Rattle.account.specs.Rows.{accountRow, accountOf}
+use Rattle.state.specs.With.{withControl, withMsgs, withDeliveries, withObserved, withAgent, withAccount, withCounters, controlPhase, controlStatus, agentPos, agentDeliveredFills, agentDeliveredLocalRejects, countersEofDroppedMsgs, countersEofDroppedObs}
 use Rattle.book.specs.declared.Delivery.{Delivery}
 use Rattle.book.specs.declared.ExecKind.{ExecKind}
 use Rattle.book.specs.declared.ExecKind.the-variants as exec
@@ -21,13 +24,13 @@ use Rattle.book.specs.declared.Origin.{Origin}
 use Rattle.book.specs.declared.Origin.the-variants.{Local, Venue}
 use Rattle.book.specs.declared.ReportRec.{ReportRec}
 use Rattle.book.specs.declared.VenueMsg.{VenueMsg}
-use Rattle.book.specs.declared.account.AgentAccount.{AgentAccount}
-use Rattle.book.specs.declared.state.HaltReason.the-variants.{LedgerOverflow, CounterOverflow}
-use Rattle.book.specs.declared.state.KernelEvent.{KernelEvent}
-use Rattle.book.specs.declared.state.KernelEvent.the-variants.{Delivered, EndOfData, DroppedMsg, DroppedExpiry}
-use Rattle.book.specs.declared.state.KernelState.{KernelState}
-use Rattle.book.specs.declared.state.Phase.the-variants as phase
-use Rattle.book.specs.declared.state.Status.the-variants as status
+use Rattle.account.specs.declared.AgentAccount.{AgentAccount}
+use Rattle.state.specs.declared.HaltReason.the-variants.{LedgerOverflow, CounterOverflow}
+use Rattle.state.specs.declared.KernelEvent.{KernelEvent}
+use Rattle.state.specs.declared.KernelEvent.the-variants.{Delivered, EndOfData, DroppedMsg, DroppedExpiry}
+use Rattle.state.specs.declared.KernelState.{KernelState}
+use Rattle.state.specs.declared.Phase.the-variants as phase
+use Rattle.state.specs.declared.Status.the-variants as status
 use Rattle.rules.specs.Run.{Run, ended, ranTo, haltAt, raised, after, andThen, taking}
 use Rattle.rules.specs.Matching.{moved}
 

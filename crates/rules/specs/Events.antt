@@ -7,17 +7,19 @@ use Rattle.numbers.specs.declared.MaybeU64.the-variants as u64
 use Rattle.lists.specs.Lists.{onSome, below, popped, entryAt, total}
 use Rattle.book.specs.Capacities.{msgsCapacity, deliveriesCapacity, observedCapacity}
 use Rattle.book.specs.Entries.{blankMsg, blankDelivery, blankObs}
-use Rattle.book.specs.Rows.{msgsRow, deliveriesRow, observedRow, observedOf}
-use Rattle.book.specs.With.{withControl, withClock, withObserved, withAgent, controlPhase, controlResume, controlStatus, clockNowNs, agentLastObsRow}
+use Rattle.msgs.specs.Rows.{msgsRow}
+use Rattle.deliveries.specs.Rows.{deliveriesRow}
+use Rattle.observed.specs.Rows.{observedRow, observedOf}
+use Rattle.state.specs.With.{withControl, withClock, withObserved, withAgent, controlPhase, controlResume, controlStatus, clockNowNs, agentLastObsRow}
 use Rattle.book.specs.declared.MsgKind.{MsgKind}
 use Rattle.book.specs.declared.MsgKind.the-variants.{Cancel, Activate, Expire}
 use Rattle.book.specs.declared.VenueMsg.{VenueMsg}
 use Rattle.book.specs.declared.config.Config.{Config}
-use Rattle.book.specs.declared.state.KernelEvent.the-variants.{Observed}
-use Rattle.book.specs.declared.state.KernelState.{KernelState}
-use Rattle.book.specs.declared.state.Phase.the-variants as phase
-use Rattle.book.specs.declared.state.Status.the-variants as status
-use Rattle.book.specs.declared.state.Control.{Control}
+use Rattle.state.specs.declared.KernelEvent.the-variants.{Observed}
+use Rattle.state.specs.declared.KernelState.{KernelState}
+use Rattle.state.specs.declared.Phase.the-variants as phase
+use Rattle.state.specs.declared.Status.the-variants as status
+use Rattle.state.specs.declared.Control.{Control}
 use Rattle.rules.specs.Run.{Run, left, ranTo, taking, Turn, again, last, iter}
 use Rattle.rules.specs.Messages.{applyNextMsg}
 use Rattle.rules.specs.Delivery.{deliverNext}

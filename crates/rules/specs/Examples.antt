@@ -7,7 +7,7 @@ use Rattle.numbers.specs.Choice.{pick}
 use Rattle.numbers.specs.Words.{onWord}
 use Rattle.numbers.specs.declared.MaybeU64.the-variants.{Some}
 use Rattle.book.specs.Entries.{onSide}
-use Rattle.book.specs.Numbers.{haltNumber}
+use Rattle.state.specs.Numbers.{haltNumber}
 use Rattle.book.specs.declared.OrderState.the-variants.{Active}
 use Rattle.book.specs.declared.Side.the-variants.{Buy}
 use Rattle.book.specs.declared.VenueOrder.{VenueOrder}
@@ -15,7 +15,7 @@ use Rattle.book.specs.declared.config.Config.{Config}
 use Rattle.book.specs.declared.config.FillMode.{FillMode}
 use Rattle.book.specs.declared.config.FillMode.the-variants.{QueuePosition}
 use Rattle.book.specs.declared.config.KernelTick.{KernelTick}
-use Rattle.book.specs.declared.state.KernelState.{KernelState}
+use Rattle.state.specs.declared.KernelState.{KernelState}
 use Rattle.rules.specs.Run.{Outcome, ran, left, halt, ended}
 use Rattle.rules.specs.Generator.{Draw, nextState, output, draw}
 use Rattle.rules.specs.Matching.{matches, ahead, lotsOf, queueFillLots, fillLots, fillsOf, filling}

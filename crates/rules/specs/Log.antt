@@ -4,11 +4,12 @@ use mathlib.Core.List.{List, [], _∷_, _++_}
 use lib.Dec.{ltb}
 use lib.ListN.{length, drop}
 use Rattle.numbers.specs.Choice.{pick}
-use Rattle.book.specs.Numbers.{sideNumber, execNumber, originNumber, flagNumber, haltNumber}
+use Rattle.book.specs.Numbers.{sideNumber, execNumber, originNumber, flagNumber}
+use Rattle.state.specs.Numbers.{haltNumber}
 use Rattle.book.specs.declared.FillRec.{FillRec}
 use Rattle.book.specs.declared.ReportRec.{ReportRec}
-use Rattle.book.specs.declared.state.KernelEvent.{KernelEvent}
-use Rattle.book.specs.declared.state.KernelEvent.the-variants.{Report, Fill, Delivered, Observed, RowEnd, EndOfData, Halted, DroppedMsg, Expired, DroppedExpiry}
+use Rattle.state.specs.declared.KernelEvent.{KernelEvent}
+use Rattle.state.specs.declared.KernelEvent.the-variants.{Report, Fill, Delivered, Observed, RowEnd, EndOfData, Halted, DroppedMsg, Expired, DroppedExpiry}
 
 -- "1 report and 3 delivered (ts, seq, order, side, ExecKind, origin, cancel_pending, price, qty, last, cum)"
 abbrev pub reportWords : ℕ → ReportRec → List ℕ

@@ -13,8 +13,8 @@ use Rattle.numbers.specs.declared.position.Position.{Position}
 use Rattle.lists.specs.Lists.{onSome, entryAt, takeAt, storeAt}
 use Rattle.book.specs.Capacities.{ordersCapacity}
 use Rattle.book.specs.Entries.{blankOrder, onSide, remaining, isActive, isTerminal}
-use Rattle.book.specs.Rows.{ordersRow, ordersOf}
-use Rattle.book.specs.With.{withSeqs, withOrders, withGate, withCounters, seqsNextExecId, gateVenuePos, gateMark2, countersVenueFills}
+use Rattle.orders.specs.Rows.{ordersRow, ordersOf}
+use Rattle.state.specs.With.{withSeqs, withOrders, withGate, withCounters, seqsNextExecId, gateVenuePos, gateMark2, countersVenueFills}
 use Rattle.book.specs.declared.ExecKind.{ExecKind}
 use Rattle.book.specs.declared.ExecKind.the-variants as exec
 use Rattle.book.specs.declared.FillRec.{FillRec}
@@ -27,11 +27,11 @@ use Rattle.book.specs.declared.config.Config.{Config}
 use Rattle.book.specs.declared.config.FillMode.{FillMode}
 use Rattle.book.specs.declared.config.FillMode.the-variants.{Immediate, QueuePosition}
 use Rattle.book.specs.declared.config.KernelTick.{KernelTick}
-use Rattle.book.specs.declared.orders.Orders.{Orders}
-use Rattle.book.specs.declared.state.GateState.{GateState}
-use Rattle.book.specs.declared.state.HaltReason.the-variants.{LedgerOverflow, CounterOverflow}
-use Rattle.book.specs.declared.state.KernelEvent.the-variants.{Fill}
-use Rattle.book.specs.declared.state.KernelState.{KernelState}
+use Rattle.orders.specs.declared.Orders.{Orders}
+use Rattle.state.specs.declared.GateState.{GateState}
+use Rattle.state.specs.declared.HaltReason.the-variants.{LedgerOverflow, CounterOverflow}
+use Rattle.state.specs.declared.KernelEvent.the-variants.{Fill}
+use Rattle.state.specs.declared.KernelState.{KernelState}
 use Rattle.rules.specs.Run.{Run, ranTo, haltAt, raised, andThen, taking}
 use Rattle.rules.specs.Report.{stamp, queueDelivery, reportOn}
 use Rattle.rules.specs.Messages.{released, removeExpiry, awaitMarked}

@@ -10,8 +10,9 @@ use Rattle.numbers.specs.declared.MaybeU64.the-variants as u64
 use Rattle.lists.specs.Lists.{onSome, live, foundIn, pushed, putBefore, takeAt, popped}
 use Rattle.book.specs.Capacities.{ordersCapacity, msgsCapacity}
 use Rattle.book.specs.Entries.{blankOrder, blankMsg, onSide, remaining, inState, isOpen, hasId, idAbove, isLater, isActivation, isExpiry}
-use Rattle.book.specs.Rows.{ordersRow, ordersOf, msgsRow, msgsOf}
-use Rattle.book.specs.With.{withSeqs, withOrders, withMsgs, withAwaiting, withGate, seqsNextMsgSeq, gateLiveBuyLots, gateLiveSellLots}
+use Rattle.orders.specs.Rows.{ordersRow, ordersOf}
+use Rattle.msgs.specs.Rows.{msgsRow, msgsOf}
+use Rattle.state.specs.With.{withSeqs, withOrders, withMsgs, withAwaiting, withGate, seqsNextMsgSeq, gateLiveBuyLots, gateLiveSellLots}
 use Rattle.book.specs.declared.ExecKind.the-variants as exec
 use Rattle.book.specs.declared.MaybeFill.the-variants as fill
 use Rattle.book.specs.declared.MsgKind.{MsgKind}
@@ -21,10 +22,10 @@ use Rattle.book.specs.declared.Side.{Side}
 use Rattle.book.specs.declared.VenueMsg.{VenueMsg}
 use Rattle.book.specs.declared.VenueOrder.{VenueOrder}
 use Rattle.book.specs.declared.config.Config.{Config}
-use Rattle.book.specs.declared.state.GateState.{GateState}
-use Rattle.book.specs.declared.state.HaltReason.the-variants.{TimeOverflow, CounterOverflow}
-use Rattle.book.specs.declared.state.KernelEvent.the-variants.{Expired}
-use Rattle.book.specs.declared.state.KernelState.{KernelState}
+use Rattle.state.specs.declared.GateState.{GateState}
+use Rattle.state.specs.declared.HaltReason.the-variants.{TimeOverflow, CounterOverflow}
+use Rattle.state.specs.declared.KernelEvent.the-variants.{Expired}
+use Rattle.state.specs.declared.KernelState.{KernelState}
 use Rattle.rules.specs.Run.{Run, ranTo, haltAt, raised, andThen, putting, taking}
 use Rattle.rules.specs.Report.{stamp, queueDelivery, reportOn}
 

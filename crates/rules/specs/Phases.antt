@@ -9,16 +9,16 @@ use Rattle.numbers.specs.Words.{fits, onWord}
 use Rattle.numbers.specs.declared.MaybeU64.the-variants as u64
 use Rattle.lists.specs.Lists.{onSome, pushed}
 use Rattle.book.specs.Capacities.{observedCapacity}
-use Rattle.book.specs.Rows.{observedRow, observedOf}
-use Rattle.book.specs.With.{withControl, withClock, withObserved, controlPhase, controlCursor, controlCurRow, clockLastObservedNs}
+use Rattle.observed.specs.Rows.{observedRow, observedOf}
+use Rattle.state.specs.With.{withControl, withClock, withObserved, controlPhase, controlCursor, controlCurRow, clockLastObservedNs}
 use Rattle.book.specs.declared.config.Config.{Config}
 use Rattle.book.specs.declared.config.KernelTick.{KernelTick}
-use Rattle.book.specs.declared.state.Control.{Control}
-use Rattle.book.specs.declared.state.HaltReason.the-variants.{LedgerOverflow, CounterOverflow}
-use Rattle.book.specs.declared.state.KernelEvent.the-variants.{RowEnd}
-use Rattle.book.specs.declared.state.KernelState.{KernelState}
-use Rattle.book.specs.declared.state.Phase.{Phase}
-use Rattle.book.specs.declared.state.Phase.the-variants.{BeforeMatch, ObsQueued, AwaitDecision, Terminal}
+use Rattle.state.specs.declared.Control.{Control}
+use Rattle.state.specs.declared.HaltReason.the-variants.{LedgerOverflow, CounterOverflow}
+use Rattle.state.specs.declared.KernelEvent.the-variants.{RowEnd}
+use Rattle.state.specs.declared.KernelState.{KernelState}
+use Rattle.state.specs.declared.Phase.{Phase}
+use Rattle.state.specs.declared.Phase.the-variants.{BeforeMatch, ObsQueued, AwaitDecision, Terminal}
 use Rattle.rules.specs.Run.{Run, ranTo, haltAt, raised, andThen, putting, Turn, again, last, iter}
 use Rattle.rules.specs.Report.{delayed}
 use Rattle.rules.specs.Matching.{matchRow}

@@ -6,8 +6,8 @@ use Rattle.numbers.specs.declared.MaybeU64.{MaybeU64}
 use Rattle.numbers.specs.declared.MaybeU64.the-variants.{None}
 use Rattle.lists.specs.Lists.{pushed}
 use Rattle.book.specs.Capacities.{deliveriesCapacity}
-use Rattle.book.specs.Rows.{deliveriesRow, deliveriesOf}
-use Rattle.book.specs.With.{withSeqs, withClock, withRngLatency, withDeliveries, seqsStampSeq, clockLastDeliveryNs}
+use Rattle.deliveries.specs.Rows.{deliveriesRow, deliveriesOf}
+use Rattle.state.specs.With.{withSeqs, withClock, withRngLatency, withDeliveries, seqsStampSeq, clockLastDeliveryNs}
 use Rattle.book.specs.declared.Delivery.{Delivery}
 use Rattle.book.specs.declared.ExecKind.{ExecKind}
 use Rattle.book.specs.declared.MaybeFill.{MaybeFill}
@@ -15,9 +15,9 @@ use Rattle.book.specs.declared.Origin.the-variants.{Venue}
 use Rattle.book.specs.declared.ReportRec.{ReportRec}
 use Rattle.book.specs.declared.VenueOrder.{VenueOrder}
 use Rattle.book.specs.declared.config.Config.{Config}
-use Rattle.book.specs.declared.state.HaltReason.the-variants.{TimeOverflow, CounterOverflow}
-use Rattle.book.specs.declared.state.KernelEvent.the-variants.{Report}
-use Rattle.book.specs.declared.state.KernelState.{KernelState}
+use Rattle.state.specs.declared.HaltReason.the-variants.{TimeOverflow, CounterOverflow}
+use Rattle.state.specs.declared.KernelEvent.the-variants.{Report}
+use Rattle.state.specs.declared.KernelState.{KernelState}
 use Rattle.rules.specs.Run.{Run, ranTo, haltAt, raised, andThen, putting}
 use Rattle.rules.specs.Generator.{Draw, draw}
 

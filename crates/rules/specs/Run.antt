@@ -4,10 +4,10 @@ use mathlib.Core.List.{List, [], _∷_, _++_}
 use Rattle.numbers.specs.Choice.{pick}
 use Rattle.lists.specs.Lists.{Row, Put, Taken, onSome}
 use Rattle.book.specs.declared.VenueMsg.{VenueMsg}
-use Rattle.book.specs.declared.state.HaltReason.{HaltReason}
-use Rattle.book.specs.declared.state.HaltReason.the-variants.{CounterOverflow}
-use Rattle.book.specs.declared.state.KernelEvent.{KernelEvent}
-use Rattle.book.specs.declared.state.KernelState.{KernelState}
+use Rattle.state.specs.declared.HaltReason.{HaltReason}
+use Rattle.state.specs.declared.HaltReason.the-variants.{CounterOverflow}
+use Rattle.state.specs.declared.KernelEvent.{KernelEvent}
+use Rattle.state.specs.declared.KernelState.{KernelState}
 
 -- how a step went
 pub data Outcome : Type 0 where

@@ -24,7 +24,7 @@ use Rattle.book.specs.declared.MsgKind.the-variants.{Cancel, Activate, Expire}
 use Rattle.book.specs.declared.Side.{Side}
 use Rattle.book.specs.declared.VenueMsg.{VenueMsg}
 use Rattle.book.specs.declared.VenueOrder.{VenueOrder}
-use Rattle.book.specs.declared.msgs.Msgs.{Msgs}
+use Rattle.msgs.specs.declared.Msgs.{Msgs}
 use Rattle.text.specs.Fields.{is, parted, fields}
 use Rattle.runtext.specs.Lines.{lineOf}
 use Rattle.runtext.specs.Read.{reserved, marked, markedKind, markedIn, inFlight, takeLine, lineTaken, blankReading, Read, readText, isEmpty, closing, badAfter, readWith, scriptOf, onLineTaken, readParts}

@@ -13,15 +13,15 @@ use Rattle.lists.specs.Lists.{Row, below, putAt, total}
 use Rattle.lists.proofs.Cases.{pick-case}
 use Rattle.lists.proofs.Sums.{put-case, Added}
 use Rattle.book.specs.Entries.{onSide}
-use Rattle.book.specs.Rows.{msgsRow}
+use Rattle.msgs.specs.Rows.{msgsRow}
 use Rattle.book.specs.declared.MsgKind.{MsgKind}
 use Rattle.book.specs.declared.MsgKind.the-variants.{Cancel, Activate, Expire}
 use Rattle.book.specs.declared.Side.{Side}
 use Rattle.book.specs.declared.Side.the-variants.{Buy, Sell}
 use Rattle.book.specs.declared.VenueMsg.{VenueMsg}
 use Rattle.book.specs.declared.VenueOrder.{VenueOrder}
-use Rattle.book.specs.declared.msgs.Msgs.{Msgs}
-use Rattle.book.specs.declared.state.KernelState.{KernelState}
+use Rattle.msgs.specs.declared.Msgs.{Msgs}
+use Rattle.state.specs.declared.KernelState.{KernelState}
 use Rattle.rules.specs.Calls.{Did, refused, stays, halts, ends}
 use Rattle.rules.specs.Conservation.{ofSide, lotsOn, carriedBy, carriedOn, Each, Conserved, Closed, Call, answerTo, result, After, Claim}
 use Rattle.rules.proofs.Cases.{word-case}

@@ -12,7 +12,11 @@ use Rattle.numbers.specs.declared.MaybeU64.the-variants as maybe
 use Rattle.lists.specs.Lists.{Put, Row, pushed, putBefore}
 use Rattle.book.specs.Capacities.{msgsCapacity, accountCapacity}
 use Rattle.book.specs.Entries.{onSide, isLater}
-use Rattle.book.specs.Rows.{emptyOrders, emptyMsgs, emptyDeliveries, emptyObserved, emptyAgentAccount, msgsRow, msgsOf, accountRow, accountOf}
+use Rattle.orders.specs.Rows.{emptyOrders}
+use Rattle.msgs.specs.Rows.{emptyMsgs, msgsRow, msgsOf}
+use Rattle.deliveries.specs.Rows.{emptyDeliveries}
+use Rattle.observed.specs.Rows.{emptyObserved}
+use Rattle.account.specs.Rows.{emptyAgentAccount, accountRow, accountOf}
 use Rattle.book.specs.declared.MsgKind.{MsgKind}
 use Rattle.book.specs.declared.MsgKind.the-variants.{Cancel, Activate, Expire}
 use Rattle.book.specs.declared.Side.{Side}
@@ -22,10 +26,10 @@ use Rattle.book.specs.declared.config.Config.{Config}
 use Rattle.book.specs.declared.config.FillMode.{FillMode}
 use Rattle.book.specs.declared.config.FillMode.the-variants.{Immediate}
 use Rattle.book.specs.declared.config.KernelTick.{KernelTick}
-use Rattle.book.specs.declared.msgs.Msgs.{Msgs}
-use Rattle.book.specs.declared.state.KernelState.{KernelState}
-use Rattle.book.specs.declared.state.Phase.the-variants.{ObsQueued}
-use Rattle.book.specs.declared.state.Status.the-variants.{Running}
+use Rattle.msgs.specs.declared.Msgs.{Msgs}
+use Rattle.state.specs.declared.KernelState.{KernelState}
+use Rattle.state.specs.declared.Phase.the-variants.{ObsQueued}
+use Rattle.state.specs.declared.Status.the-variants.{Running}
 use Rattle.text.specs.Fields.{parted, fields}
 use Rattle.runtext.specs.Lines.{lineOf}
 use Rattle.runtext.specs.declared.line.Line.{Line}

@@ -1,7 +1,7 @@
 -- Of a replay that reaches end of data: the calls before that one. The theorems about every good run text are proofs/Start.antt.
 use mathlib.Core.List.{List, [], _∷_}
 use mathlib.Core.Path.{_≡_}
-use Rattle.book.specs.declared.state.KernelState.{KernelState}
+use Rattle.state.specs.declared.KernelState.{KernelState}
 use Rattle.rules.specs.Calls.{Did, refused, stays, halts, ends}
 use Rattle.rules.specs.Conservation.{Call, answerTo, result}
 

@@ -1,31 +1,31 @@
 // A run file read whole: its configuration, its rows and the state at the start.
 use super::line::Line;
 use super::line::line_of;
+use account::AgentAccount;
 use book::MsgKind;
+use book::OpenOrder;
 use book::Side;
 use book::VenueMsg;
 use book::VenueOrder;
-use book::account::AgentAccount;
-use book::account::OpenOrder;
 use book::config::Config;
 use book::config::FillMode;
 use book::config::KernelTick;
-use book::deliveries::Deliveries;
-use book::msgs::Msgs;
-use book::observed::Observed;
-use book::orders::Orders;
-use book::state::AgentView;
-use book::state::Clock;
-use book::state::Control;
-use book::state::Counters;
-use book::state::GateState;
-use book::state::KernelState;
-use book::state::Phase;
-use book::state::Seqs;
-use book::state::Status;
+use deliveries::Deliveries;
+use msgs::Msgs;
 use numbers::MaybeU64;
 use numbers::position::Position;
 use numbers::words::checked_add;
+use observed::Observed;
+use orders::Orders;
+use state::AgentView;
+use state::Clock;
+use state::Control;
+use state::Counters;
+use state::GateState;
+use state::KernelState;
+use state::Phase;
+use state::Seqs;
+use state::Status;
 use text::fields::piece_end;
 ghost use mathlib.Core.Path.{_≡_};
 ghost use Rattle.runtext.specs.Read.{blankReading, bad, reserved, marked, markedIn, seeded, startState, isMessageDue, takeConfig, takeFill, takeOrder, takeCancel, takeRow, takeLine, lineTaken, scriptOf, readText, readWith};
@@ -136,7 +136,7 @@ fn mark_all(msgs: Msgs, id: u64) -> Msgs
     ensures { λ r. ⌜ r ≡ markedIn id msgs ⌝ }
 {
     let mut next = msgs;
-    for i in 0..book::msgs::CAPACITY {
+    for i in 0..msgs::CAPACITY {
         let m = next.slots[i];
         let n = mark(m, id);
         next.slots[i] = n;

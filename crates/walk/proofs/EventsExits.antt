@@ -9,19 +9,20 @@ use Rattle.numbers.specs.Choice.{pick}
 use Rattle.numbers.specs.declared.MaybeU64.the-variants as u64
 use Rattle.lists.specs.Lists.{onSome, popped}
 use Rattle.book.specs.Entries.{blankDelivery, blankObs}
-use Rattle.book.specs.Rows.{deliveriesRow, deliveriesTaken, observedRow, observedTaken}
-use Rattle.book.specs.With.{withClock, clockNowNs, agentLastObsRow}
+use Rattle.deliveries.specs.Rows.{deliveriesRow, deliveriesTaken}
+use Rattle.observed.specs.Rows.{observedRow, observedTaken}
+use Rattle.state.specs.With.{withClock, clockNowNs, agentLastObsRow}
 use Rattle.book.specs.declared.ObsEntry.{ObsEntry}
 use Rattle.book.specs.declared.config.Config.{Config}
-use Rattle.book.specs.declared.deliveries.DeliveriesTaken.{DeliveriesTaken}
-use Rattle.book.specs.declared.deliveries.MaybeDelivery.the-variants as delivery
-use Rattle.book.specs.declared.observed.MaybeObs.the-variants as obs
-use Rattle.book.specs.declared.observed.Observed.{Observed}
-use Rattle.book.specs.declared.observed.ObservedTaken.{ObservedTaken}
-use Rattle.book.specs.declared.state.AgentView.{AgentView}
-use Rattle.book.specs.declared.state.Control.{Control}
-use Rattle.book.specs.declared.state.KernelEvent.the-variants as event
-use Rattle.book.specs.declared.state.KernelState.{KernelState}
+use Rattle.deliveries.specs.declared.DeliveriesTaken.{DeliveriesTaken}
+use Rattle.deliveries.specs.declared.MaybeDelivery.the-variants as delivery
+use Rattle.observed.specs.declared.MaybeObs.the-variants as obs
+use Rattle.observed.specs.declared.Observed.{Observed}
+use Rattle.observed.specs.declared.ObservedTaken.{ObservedTaken}
+use Rattle.state.specs.declared.AgentView.{AgentView}
+use Rattle.state.specs.declared.Control.{Control}
+use Rattle.state.specs.declared.KernelEvent.the-variants as event
+use Rattle.state.specs.declared.KernelState.{KernelState}
 use Rattle.rules.specs.Run as rules
 use Rattle.rules.specs.Events as events
 use Rattle.rules.proofs.Falls.{event-falls, walk-again, walk-last}

@@ -1,12 +1,12 @@
 -- The next event as the rules say it, and the parts of the state that an observation changes.
 use Prim.Native.Nat.{ℕ}
-use Rattle.book.specs.With.{withControl, withClock, withMsgs, withDeliveries, withObserved, withAgent, clockNowNs}
-use Rattle.book.specs.declared.deliveries.Deliveries.{Deliveries}
-use Rattle.book.specs.declared.msgs.Msgs.{Msgs}
-use Rattle.book.specs.declared.observed.Observed.{Observed}
-use Rattle.book.specs.declared.state.AgentView.{AgentView}
-use Rattle.book.specs.declared.state.Control.{Control}
-use Rattle.book.specs.declared.state.KernelState.{KernelState}
+use Rattle.state.specs.With.{withControl, withClock, withMsgs, withDeliveries, withObserved, withAgent, clockNowNs}
+use Rattle.deliveries.specs.declared.Deliveries.{Deliveries}
+use Rattle.msgs.specs.declared.Msgs.{Msgs}
+use Rattle.observed.specs.declared.Observed.{Observed}
+use Rattle.state.specs.declared.AgentView.{AgentView}
+use Rattle.state.specs.declared.Control.{Control}
+use Rattle.state.specs.declared.KernelState.{KernelState}
 use Rattle.rules.specs.Events as events
 use Rattle.reports.specs.declared.Step.{Step}
 use Rattle.walk.specs.declared.Class.{Class}

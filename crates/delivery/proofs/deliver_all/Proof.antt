@@ -1,7 +1,7 @@
 -- `delivery::deliver_all` meets its contract: what is left of the deliveries gives what the whole gives. Assumes nothing.
 use mathlib.Core.Path.{_≡_, refl, _∙_}
 use lib.ListN.{length}
-use Rattle.book.specs.declared.state.KernelState.{KernelState}
+use Rattle.state.specs.declared.KernelState.{KernelState}
 use Rattle.rules.specs.Delivery.{deliverAll}
 use Rattle.reports.specs.Log.{logAt, expected}
 use Rattle.delivery.specs.Delivery.{withEmptied}

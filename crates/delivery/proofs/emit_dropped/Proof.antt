@@ -4,7 +4,7 @@ use mathlib.Core.List.{map}
 use mathlib.Core.Path.{_≡_, refl, _∙_}
 use lib.ListN.{length, take, drop}
 use Rattle.book.specs.Entries.{blankMsg}
-use Rattle.book.proofs.Long.{msgs-long}
+use Rattle.msgs.proofs.Long.{msgs-long}
 use Rattle.rules.specs.Delivery.{droppedEvent}
 use Rattle.reports.specs.Log.{logAt, appendEvents}
 use Rattle.delivery.proofs.DeliveryExits.{dropped-none, dropped-turn, dropped-all}

@@ -6,7 +6,7 @@ use native.Mathlib.Omega.{arith}
 use Rattle.lists.proofs.Loops.{Searching, search-begin, search-turn}
 use Rattle.lists.proofs.Exits.{found-over, found-in, found-past}
 use Rattle.book.specs.Entries.{blankOrder}
-use Rattle.book.proofs.Long.{orders-long}
+use Rattle.orders.proofs.Long.{orders-long}
 use Rattle.matching.specs.Matching.{concerns}
 use Rattle.matching.proofs.MatchingExits.{busy-none, busy-some}
 use Rattle.matching.proofs.busy.Statement.{statement}

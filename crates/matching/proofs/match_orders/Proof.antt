@@ -2,8 +2,8 @@
 use mathlib.Core.Path.{_≡_, refl, _∙_}
 use Prim.Native.Nat.{_+_, _-_, _≤_}
 use lib.ListN.{length, length-set}
-use Rattle.book.specs.declared.state.KernelState.{KernelState}
-use Rattle.book.proofs.Long.{deliveries-long}
+use Rattle.state.specs.declared.KernelState.{KernelState}
+use Rattle.deliveries.proofs.Long.{deliveries-long}
 use Rattle.rules.specs.Matching.{matchFrom}
 use Rattle.reports.specs.Log.{logAt, expected}
 use Rattle.matching.specs.Matching.{withMatched}

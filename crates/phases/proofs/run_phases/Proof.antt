@@ -6,10 +6,10 @@ use mathlib.Core.Path.{_≡_, refl, sym, ap, _∙_}
 use denote.Ref.{now}
 use lib.ListN.{length}
 use Rattle.numbers.specs.declared.MaybeU64.the-variants.{Some}
-use Rattle.book.specs.With.{withControl}
+use Rattle.state.specs.With.{withControl}
 use Rattle.book.specs.declared.config.KernelTick.{KernelTick}
-use Rattle.book.specs.declared.state.KernelEvent.the-variants.{RowEnd}
-use Rattle.book.specs.declared.state.KernelState.{KernelState}
+use Rattle.state.specs.declared.KernelEvent.the-variants.{RowEnd}
+use Rattle.state.specs.declared.KernelState.{KernelState}
 use Rattle.rules.specs.Run.{andThen, again}
 use Rattle.rules.specs.Matching.{sweep}
 use Rattle.rules.specs.Events.{runEvents}

@@ -1,6 +1,6 @@
 -- `walk::next_delivery` meets its contract. Assumes nothing.
 use mathlib.Core.Path.{sym, ap, _∙_}
-use Rattle.book.specs.Rows.{deliveryIn}
+use Rattle.deliveries.specs.Rows.{deliveryIn}
 use Rattle.rules.specs.Events.{nextDelivery}
 use Rattle.walk.proofs.EventsExits.{front-none, front-some}
 use borrow.Author.Needs.{needs}

@@ -1,6 +1,6 @@
 -- `walk::next_msg` meets its contract. Assumes nothing.
 use mathlib.Core.Path.{sym, ap, _∙_}
-use Rattle.book.specs.Rows.{msgIn}
+use Rattle.msgs.specs.Rows.{msgIn}
 use Rattle.rules.specs.Events.{nextMsg}
 use Rattle.walk.proofs.EventsExits.{front-none, front-some}
 use borrow.Author.Needs.{needs}

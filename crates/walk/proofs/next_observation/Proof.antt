@@ -1,6 +1,6 @@
 -- `walk::next_observation` meets its contract. Assumes nothing.
 use mathlib.Core.Path.{sym, ap, _∙_}
-use Rattle.book.specs.Rows.{obsIn}
+use Rattle.observed.specs.Rows.{obsIn}
 use Rattle.rules.specs.Events.{nextObservation}
 use Rattle.walk.proofs.EventsExits.{front-none, front-some}
 use borrow.Author.Needs.{needs}

@@ -1,5 +1,5 @@
 -- `walk::next_of` meets its contract. Assumes nothing.
-use Rattle.book.specs.declared.state.KernelState.{KernelState}
+use Rattle.state.specs.declared.KernelState.{KernelState}
 use Rattle.walk.specs.Events.{withQueues}
 use Rattle.walk.proofs.EventsExits.{soonest}
 use borrow.Author.Needs.{needs}

@@ -1,8 +1,8 @@
 -- `walk::run_events` meets its contract: the walk from here gives what the whole walk gives. Assumes nothing.
 use mathlib.Core.Path.{_≡_, refl, _∙_}
 use lib.ListN.{length}
-use Rattle.book.specs.With.{withClock, withDeliveries, clockNowNs}
-use Rattle.book.specs.declared.state.KernelState.{KernelState}
+use Rattle.state.specs.With.{withClock, withDeliveries, clockNowNs}
+use Rattle.state.specs.declared.KernelState.{KernelState}
 use Rattle.rules.specs.Events.{runEvents, weight}
 use Rattle.reports.specs.Log.{logAt, expected}
 use Rattle.delivery.specs.Delivery.{deliveryStepIn}

@@ -6,7 +6,7 @@ use borrow.Author.Needs.{needs}
 use native.Mathlib.Omega.{arith}
 use lib.ListN.{length, take, drop}
 use Rattle.book.specs.Entries.{blankMsg}
-use Rattle.book.proofs.Long.{msgs-long}
+use Rattle.msgs.proofs.Long.{msgs-long}
 use Rattle.runtext.specs.Read.{marked}
 use Rattle.runtext.proofs.ReadLaws.{map-turn, map-done, marked-all}
 use Rattle.runtext.proofs.read.mark_all.Statement.{statement}

@@ -1,0 +1,7 @@
+-- `observed::Observed::new` meets its contract. Assumes nothing.
+use borrow.Author.Needs.{needs}
+use Rattle.observed.proofs.Observed.new.Statement.{statement}
+use Rattle.observed.proofs.Observed.new.Tie as tie
+
+pub new-spec : {M : Type 1} → statement M
+new-spec = tie.close (tie.spec (λ c κs. search needs) (λ c. simp (c .blank .ensures)))

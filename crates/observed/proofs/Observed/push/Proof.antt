@@ -1,0 +1,16 @@
+-- `observed::Observed::push` meets its contract, by the laws of `Exits`. Assumes nothing.
+use borrow.Author.Needs.{needs}
+use native.Mathlib.Omega.{arith}
+use Rattle.lists.proofs.Exits.{put-full, push-in}
+use Rattle.observed.proofs.Long.{observed-long}
+use Rattle.observed.proofs.Observed.push.Statement.{statement}
+use Rattle.observed.proofs.Observed.push.Tie as tie
+
+pub push-spec : {M : Type 1} → statement M
+push-spec =
+    tie.close (tie.spec
+    (λ c. put-full _ _ _ _ (omega arith))
+    (λ c. search needs)
+    (λ c. search needs)
+    (λ c. search needs)
+    (λ c. let s = c .before in push-in _ _ _ (omega arith) (observed-long (s .args .self) (s .good .0))))

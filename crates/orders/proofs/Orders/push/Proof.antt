@@ -1,0 +1,16 @@
+-- `orders::Orders::push` meets its contract, by the laws of `Exits`. Assumes nothing.
+use borrow.Author.Needs.{needs}
+use native.Mathlib.Omega.{arith}
+use Rattle.lists.proofs.Exits.{put-full, push-in}
+use Rattle.orders.proofs.Long.{orders-long}
+use Rattle.orders.proofs.Orders.push.Statement.{statement}
+use Rattle.orders.proofs.Orders.push.Tie as tie
+
+pub push-spec : {M : Type 1} → statement M
+push-spec =
+    tie.close (tie.spec
+    (λ c. put-full _ _ _ _ (omega arith))
+    (λ c. search needs)
+    (λ c. search needs)
+    (λ c. search needs)
+    (λ c. let s = c .before in push-in _ _ _ (omega arith) (orders-long (s .args .self) (s .good .0))))

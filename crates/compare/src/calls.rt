@@ -1,30 +1,39 @@
 // The calls of a case, and their outcomes as text.
-use super::case::Calls;
 use super::case::Case;
 use super::case::Given;
 use super::case::Log;
-use super::case::Name;
-use super::case::Rows;
-use super::entries::least;
-use super::input::Block;
+use super::input::CALLS;
+use super::input::Fields;
+use super::input::MOST_CALLS;
+use super::input::MOST_NAME;
+use super::input::NAME;
+use super::input::Reader;
+use super::input::least;
 use super::input::word;
-use super::output::Place;
+use super::output::Writer;
+use super::output::print;
 use super::output::put;
-use super::output::put_bytes;
-use super::output::put_field;
-use super::output::put_line;
-use super::output::put_newline;
+use super::output::three;
 use super::state_text::put_state;
 use book::config::Config;
 use kernel::Advanced;
-use kernel::Answer;
 use kernel::advance;
 use kernel::pass;
 use numbers::MaybeU64;
 use numbers::words::checked_add;
 use numbers::words::wrapping_mul;
 use state::KernelState;
-ghost use Prim.Native.Nat.{_*_, _≤_};
+ghost use Prim.Native.Nat.{_+_, _*_, _≤_};
+
+// What calls came to: whether another may follow, the last answer, the events that the last `advance` raised, all that were raised and their sum, and the state.
+struct Ran {
+    more: bool,
+    answer: u64,
+    raised: u64,
+    count: u64,
+    sum: u64,
+    state: KernelState,
+}
 
 fn is_ended(s: KernelState) -> bool {
     let control = s.control;
@@ -33,12 +42,12 @@ fn is_ended(s: KernelState) -> bool {
 }
 
 // `advance` on the words of rows and log that the case has.
-fn advance_on(g: Given, rows: &Rows, log: &mut Log, state: KernelState) -> Advanced {
-    let cfg = g.cfg;
-    advance_part(cfg, rows, g.rows, state, log, g.log)
+
+fn advance_all(cfg: Config, rows: &[u64], state: KernelState, log: &mut [u64]) -> Advanced {
+    advance(cfg, rows, state, log)
 }
 
-fn advance_part(
+fn advance_on(
     cfg: Config,
     rows: &[u64],
     row_words: usize,
@@ -48,7 +57,48 @@ fn advance_part(
 ) -> Advanced {
     let w = least(row_words, rows.len());
     let l = least(log_words, log.len());
-    advance(cfg, &rows[..w], state, &mut log[..l])
+    advance_all(cfg, &rows[..w], state, &mut log[..l])
+}
+
+fn sum_counts(a: u64, b: u64) -> u64 {
+    let sum = checked_add(a, b);
+    match sum {
+        MaybeU64::None => u64::MAX,
+        MaybeU64::Some(n) => n,
+    }
+}
+
+fn advanced(g: Given, r: &Reader, log: &mut Log, t: Ran) -> Ran {
+    let cfg = g.cfg;
+    let before = t.state;
+    let a = advance_on(cfg, r, g.rows, before, log, g.log);
+    let answer = a.answer;
+    let number = answer.number();
+    let state = a.state;
+    Ran {
+        more: number == 0 && !is_ended(state),
+        answer: number,
+        raised: a.events,
+        count: sum_counts(t.count, a.events),
+        sum: t.sum,
+        state,
+    }
+}
+
+fn passed(t: Ran) -> Ran {
+    let before = t.state;
+    let p = pass(before);
+    let answer = p.answer;
+    let number = answer.number();
+    let state = p.state;
+    Ran {
+        more: number == 0,
+        answer: number,
+        raised: t.raised,
+        count: t.count,
+        sum: t.sum,
+        state,
+    }
 }
 
 // The events that a log of these words holds whole, of those raised.
@@ -60,40 +110,6 @@ fn kept(raised: u64, words: usize) -> usize
         return raised as usize;
     }
     room
-}
-
-fn put_event_word(out: &mut Block, at: &mut Place, place: usize, n: u64) {
-    if place == 0 {
-        put_bytes(out, at, b"event");
-    }
-    put_field(out, at, n);
-    if place == 11 {
-        put_newline(out, at);
-    }
-}
-
-fn put_events(out: &mut Block, at: &mut Place, log: &Log, events: usize)
-    requires { ⌜ 12 * events ≤ 24576 ⌝ }
-{
-    for i in 0..12 * events {
-        put_event_word(out, at, i % 12, log[i]);
-    }
-}
-
-// The lines before the state of a call that is one `advance` or one `pass`.
-fn put_outcome(
-    out: &mut Block,
-    at: &mut Place,
-    answer: Answer,
-    raised: u64,
-    log: &Log,
-    words: usize,
-) {
-    let n = kept(raised, words);
-    put_line(out, at, b"answer", answer.number());
-    put_line(out, at, b"count", raised);
-    put_line(out, at, b"kept", word(n));
-    put_events(out, at, log, n);
 }
 
 // FNV-1a of 64 bits, with a word's eight bytes, the lowest first.
@@ -117,207 +133,117 @@ fn sum_events(sum: u64, log: &Log, events: usize) -> u64
     s
 }
 
-fn sum_counts(a: u64, b: u64) -> u64 {
-    let sum = checked_add(a, b);
-    match sum {
-        MaybeU64::None => u64::MAX,
-        MaybeU64::Some(n) => n,
-    }
-}
-
-// `advance` and `pass` by turns: whether it goes on, the last answer, the events raised and their sum.
-struct Tally {
-    more: bool,
-    answer: u64,
-    count: u64,
-    sum: u64,
-}
-
-struct Turns {
-    tally: Tally,
-    state: KernelState,
-}
-
-fn after_advance(
-    t: Tally,
-    answer: u64,
-    raised: u64,
-    ended: bool,
-    log: &Log,
-    words: usize,
-) -> Tally {
-    let n = kept(raised, words);
-    let mut next = t;
-    next.answer = answer;
-    next.count = sum_counts(t.count, raised);
-    next.sum = sum_events(t.sum, log, n);
-    if answer != 0 {
-        next.more = false;
-    }
-    if ended {
-        next.more = false;
-    }
-    next
-}
-
-// One `advance`, which has the whole log.
-fn turn_advance(g: Given, rows: &Rows, log: &mut Log, t: Turns) -> Turns {
-    let before = t.state;
-    let a = advance_on(g, rows, log, before);
-    let answer = a.answer;
-    let state = a.state;
-    let tally = after_advance(
-        t.tally,
-        answer.number(),
-        a.events,
-        is_ended(state),
-        log,
-        g.log,
-    );
-    Turns { tally, state }
-}
-
-fn turn_pass(t: Turns) -> Turns {
-    let before = t.state;
-    let p = pass(before);
-    let answer = p.answer;
-    let state = p.state;
-    let mut tally = t.tally;
-    tally.answer = answer.number();
-    tally.more = tally.answer == 0;
-    Turns { tally, state }
-}
-
-fn turn(g: Given, rows: &Rows, log: &mut Log, t: Turns) -> Turns {
-    let a = turn_advance(g, rows, log, t);
-    if a.tally.more {
-        return turn_pass(a);
+// One `advance`, which has the whole log, and one `pass`.
+fn turn(g: Given, r: &Reader, log: &mut Log, t: Ran) -> Ran {
+    let mut a = advanced(g, r, log, t);
+    a.sum = sum_events(a.sum, log, kept(a.raised, g.log));
+    if a.more {
+        return passed(a);
     }
     a
 }
 
 // Until Terminal or a refusal. The turns are counted, to a number that no run reaches.
-fn by_turns(g: Given, rows: &Rows, log: &mut Log, state: KernelState) -> Turns {
-    let tally = Tally {
-        more: true,
-        answer: 0,
-        count: 0,
-        sum: 0xcbf2_9ce4_8422_2325,
-    };
-    let mut t = Turns { tally, state };
+fn by_turns(g: Given, r: &Reader, log: &mut Log, start: Ran) -> Ran {
+    let mut t = start;
     for _ in 0..u64::MAX {
-        if !t.tally.more {
+        if !t.more {
             break;
         }
-        t = turn(g, rows, log, t);
+        t = turn(g, r, log, t);
     }
     t
 }
 
-fn put_tally(out: &mut Block, at: &mut Place, t: Tally) {
-    put_line(out, at, b"answer", t.answer);
-    put_line(out, at, b"count", t.count);
-    put_line(out, at, b"sum", t.sum);
-}
-
-fn call_advance(
-    g: Given,
-    rows: &Rows,
-    log: &mut Log,
-    out: &mut Block,
-    at: &mut Place,
-    state: KernelState,
-) -> KernelState {
-    let a = advance_on(g, rows, log, state);
-    let answer = a.answer;
-    put_outcome(out, at, answer, a.events, log, g.log);
-    a.state
-}
-
-fn call_pass(
-    g: Given,
-    log: &Log,
-    out: &mut Block,
-    at: &mut Place,
-    state: KernelState,
-) -> KernelState {
-    let p = pass(state);
-    let answer = p.answer;
-    put_outcome(out, at, answer, 0, log, g.log);
-    p.state
-}
-
-fn call_turns(
-    g: Given,
-    rows: &Rows,
-    log: &mut Log,
-    out: &mut Block,
-    at: &mut Place,
-    state: KernelState,
-) -> KernelState {
-    let t = by_turns(g, rows, log, state);
-    let tally = t.tally;
-    put_tally(out, at, tally);
-    t.state
-}
-
-fn run_call(
-    call: u64,
-    g: Given,
-    rows: &Rows,
-    log: &mut Log,
-    out: &mut Block,
-    at: &mut Place,
-    state: KernelState,
-) -> KernelState {
-    if call == 0 {
-        return call_advance(g, rows, log, out, at, state);
+fn run_call(call: u64, g: Given, r: &Reader, log: &mut Log, state: KernelState) -> Ran {
+    let t = Ran {
+        more: true,
+        answer: 0,
+        raised: 0,
+        count: 0,
+        sum: 0xcbf2_9ce4_8422_2325,
+        state,
+    };
+    match call {
+        0 => advanced(g, r, log, t),
+        1 => passed(t),
+        _ => by_turns(g, r, log, t),
     }
-    if call == 1 {
-        return call_pass(g, log, out, at, state);
+}
+
+fn event_fields(log: &Log, event: usize) -> Fields
+    requires { ⌜ 12 * event + 12 ≤ 24576 ⌝ }
+{
+    let mut f = [0u64; 15];
+    for k in 0..12usize {
+        f[k] = log[12 * event + k];
     }
-    call_turns(g, rows, log, out, at, state)
+    f
+}
+
+fn put_events(out: &mut Writer, log: &Log, events: usize)
+    requires { ⌜ 12 * events ≤ 24576 ⌝ }
+{
+    for i in 0..events {
+        print(
+            out,
+            b"event N N N N N N N N N N N N\n",
+            event_fields(log, i),
+        );
+    }
+}
+
+// Of calls by turns only the sum of the events is written.
+fn put_ran(out: &mut Writer, call: u64, t: Ran, log: &Log, words: usize) {
+    if call == 2 {
+        print(
+            out,
+            b"answer N\ncount N\nsum N\n",
+            three(t.answer, t.count, t.sum),
+        );
+        return;
+    }
+    let n = kept(t.raised, words);
+    print(
+        out,
+        b"answer N\ncount N\nkept N\n",
+        three(t.answer, t.count, word(n)),
+    );
+    put_events(out, log, n);
 }
 
 // A call, and the state after it.
 fn put_call(
+    out: &mut Writer,
     call: u64,
     g: Given,
-    rows: &Rows,
+    r: &Reader,
     log: &mut Log,
-    out: &mut Block,
-    at: &mut Place,
     state: KernelState,
 ) -> KernelState {
-    put_line(out, at, b"call", call);
-    let after = run_call(call, g, rows, log, out, at, state);
-    put_state(out, at, after);
+    print(out, b"call N\n", three(call, 0, 0));
+    let t = run_call(call, g, r, log, state);
+    put_ran(out, call, t, log, g.log);
+    let after = t.state;
+    put_state(out, after);
     after
 }
 
-fn put_name(out: &mut Block, at: &mut Place, name: &Name, length: usize) {
-    put_bytes(out, at, b"case ");
-    for i in 0..least(length, 256) {
-        put(out, at, name[i]);
+fn put_name(out: &mut Writer, r: &Reader, length: usize) {
+    print(out, b"case ", three(0, 0, 0));
+    for i in 0..least(length, MOST_NAME) {
+        put(out, r[NAME + i]);
     }
-    put_newline(out, at);
+    print(out, b"\n", three(0, 0, 0));
 }
 
-// The outcome of a case, whose name, rows and calls stand at the start of their rooms.
-pub fn run_case(
-    c: Case,
-    name: &Name,
-    rows: &Rows,
-    calls: &Calls,
-    log: &mut Log,
-    out: &mut Block,
-    at: &mut Place,
-) {
-    put_name(out, at, name, c.name);
+// The outcome of a case, whose name, rows and calls the reader holds.
+pub fn run_case(out: &mut Writer, c: Case, r: &Reader, log: &mut Log) {
+    put_name(out, r, c.name);
     let g = c.given;
     let mut state = c.state;
-    for i in 0..least(c.calls, 4096) {
-        state = put_call(calls[i], g, rows, log, out, at, state);
+    for i in 0..least(c.calls, MOST_CALLS) {
+        state = put_call(out, r[CALLS + i], g, r, log, state);
     }
-    put_bytes(out, at, b"end\n");
+    print(out, b"end\n", three(0, 0, 0));
 }

@@ -1,22 +1,15 @@
 // The lists as text: each a line with its count, then a line for each entry below the count and the capacity.
-use super::input::Block;
+use super::input::Fields;
 use super::input::Reader;
-use super::input::field;
-use super::input::flag;
+use super::input::check;
 use super::input::hold;
-use super::input::label;
-use super::input::newline;
-use super::input::number;
+use super::input::least;
+use super::input::scan;
 use super::input::size;
-use super::input::unused;
 use super::input::word;
-use super::output::Place;
-use super::output::put_bytes;
-use super::output::put_field;
-use super::output::put_line;
-use super::output::put_newline;
-use super::output::put_pair;
-use super::output::put_zeros;
+use super::output::Writer;
+use super::output::print;
+use super::output::three;
 use account::AgentAccount;
 use book::Delivery;
 use book::ExecKind;
@@ -36,30 +29,34 @@ use deliveries::Deliveries;
 use msgs::Msgs;
 use observed::Observed;
 use orders::Orders;
-ghost use Prim.Native.Nat.{_≤_};
 
-pub fn least(a: usize, b: usize) -> usize
-    ensures { λ r. ⌜ r ≤ b ⌝ }
-{
-    if a < b {
-        return a;
-    }
-    b
+const ORDER: [u8; 22] = *b"order N N N N N N N N\n";
+
+// A message: time, sequence and kind, then an order and its life. One that has only an order's id has zeros behind it.
+const MSG: [u8; 9] = *b"msg N N N";
+
+const KIND: [u8; 19] = *b" N N N N N N N N N\n";
+
+// A delivery: the time and the report, then whether there is a fill's record, and it or zeros.
+const REPORT: [u8; 32] = *b"delivery N N N N N N N N N N N N";
+
+const FILL: [u8; 15] = *b" N N N N N N N\n";
+
+const OBS: [u8; 8] = *b"obs N N\n";
+
+const OPEN: [u8; 9] = *b"open N N\n";
+
+// The enums by their numbers. The last case stands for a number that is none of theirs: what is read is checked by its numbers.
+
+fn side_of(n: u64) -> Side {
+    if n == 0 { Side::Buy } else { Side::Sell }
 }
 
-// The enums by their numbers. A number that is none of theirs is bad, and the last case stands for it.
-
-fn read_side(block: &mut Block, r: &mut Reader) -> Side {
-    if flag(block, r) {
-        return Side::Sell;
-    }
-    Side::Buy
+fn origin_of(n: u64) -> Origin {
+    if n == 0 { Origin::Local } else { Origin::Venue }
 }
 
-fn read_order_state(block: &mut Block, r: &mut Reader) -> OrderState {
-    let n = field(block, r);
-    hold(r, 1 <= n);
-    hold(r, n <= 5);
+fn order_state_of(n: u64) -> OrderState {
     match n {
         1 => OrderState::Submitted,
         2 => OrderState::Active,
@@ -79,9 +76,7 @@ fn order_state_number(state: OrderState) -> u64 {
     }
 }
 
-fn read_exec(block: &mut Block, r: &mut Reader) -> ExecKind {
-    let n = field(block, r);
-    hold(r, n <= 5);
+fn exec_of(n: u64) -> ExecKind {
     match n {
         0 => ExecKind::Accepted,
         1 => ExecKind::Rejected,
@@ -92,340 +87,323 @@ fn read_exec(block: &mut Block, r: &mut Reader) -> ExecKind {
     }
 }
 
-fn read_origin(block: &mut Block, r: &mut Reader) -> Origin {
-    if flag(block, r) {
-        return Origin::Venue;
-    }
-    Origin::Local
-}
-
 // Orders.
 
-fn read_order(block: &mut Block, r: &mut Reader) -> VenueOrder {
-    let id = field(block, r);
-    let side = read_side(block, r);
-    let price = field(block, r);
-    let qty = field(block, r);
-    let filled = field(block, r);
-    let state = read_order_state(block, r);
-    let active_after_ns = field(block, r);
-    let cancel_inflight = flag(block, r);
+fn order_of(f: Fields) -> VenueOrder {
     VenueOrder {
-        id,
-        side,
-        price,
-        qty,
-        filled,
-        state,
-        active_after_ns,
-        cancel_inflight,
+        id: f[0],
+        side: side_of(f[1]),
+        price: f[2],
+        qty: f[3],
+        filled: f[4],
+        state: order_state_of(f[5]),
+        active_after_ns: f[6],
+        cancel_inflight: f[7] == 1,
     }
 }
 
-fn put_order(out: &mut Block, at: &mut Place, o: VenueOrder) {
+// Its numbers, and the life that stands behind them in a message.
+fn order_fields(o: VenueOrder, life: u64) -> Fields {
     let side = o.side;
     let state = o.state;
-    put_field(out, at, o.id);
-    put_field(out, at, side.number());
-    put_field(out, at, o.price);
-    put_field(out, at, o.qty);
-    put_field(out, at, o.filled);
-    put_field(out, at, order_state_number(state));
-    put_field(out, at, o.active_after_ns);
-    put_field(out, at, flag_number(o.cancel_inflight));
+    [
+        o.id,
+        side.number(),
+        o.price,
+        o.qty,
+        o.filled,
+        order_state_number(state),
+        o.active_after_ns,
+        flag_number(o.cancel_inflight),
+        life,
+        0,
+        0,
+        0,
+        0,
+        0,
+        0,
+    ]
 }
 
-pub fn read_orders(block: &mut Block, r: &mut Reader, name: &[u8]) -> Orders {
-    let count = size(number(block, r, name));
+fn read_order(r: &mut Reader) -> VenueOrder {
+    let f = scan(r, &ORDER);
+    let o = order_of(f);
+    check(r, f, order_fields(o, 0));
+    o
+}
+
+pub fn read_orders(r: &mut Reader, name: &[u8]) -> Orders {
+    let f = scan(r, name);
     let mut list = Orders::new();
-    list.count = count;
-    for i in 0..least(count, orders::CAPACITY) {
-        label(block, r, b"order");
-        let o = read_order(block, r);
-        newline(block, r);
+    list.count = size(f[0]);
+    for i in 0..least(list.count, orders::CAPACITY) {
+        let o = read_order(r);
         list.slots[i] = o;
     }
     list
 }
 
-pub fn put_orders(out: &mut Block, at: &mut Place, name: &[u8], list: Orders) {
-    put_line(out, at, name, word(list.count));
+fn put_order(out: &mut Writer, o: VenueOrder) {
+    print(out, &ORDER, order_fields(o, 0));
+}
+
+pub fn put_orders(out: &mut Writer, name: &[u8], list: Orders) {
+    print(out, name, three(word(list.count), 0, 0));
     for i in 0..least(list.count, orders::CAPACITY) {
-        let o = list.slots[i];
-        put_bytes(out, at, b"order");
-        put_order(out, at, o);
-        put_newline(out, at);
+        put_order(out, list.slots[i]);
     }
 }
 
-// Messages. The kind is a number before the order's; a message that has only an order's id has zeros behind it.
+// Messages.
 
-fn read_kind(block: &mut Block, r: &mut Reader) -> MsgKind {
-    let kind = field(block, r);
-    if kind == 0 {
-        let order = read_order(block, r);
-        let life = field(block, r);
-        return MsgKind::Activate { order, life };
+fn kind_of(n: u64, f: Fields) -> MsgKind {
+    if n == 0 {
+        let order = order_of(f);
+        return MsgKind::Activate { order, life: f[8] };
     }
-    hold(r, kind <= 2);
-    let id = field(block, r);
-    unused(block, r, 8);
-    if kind == 1 {
-        return MsgKind::Cancel { id };
+    if n == 1 {
+        return MsgKind::Cancel { id: f[0] };
     }
-    MsgKind::Expire { id }
+    MsgKind::Expire { id: f[0] }
 }
 
-fn put_bare(out: &mut Block, at: &mut Place, kind: u64, id: u64) {
-    put_field(out, at, kind);
-    put_field(out, at, id);
-    put_zeros(out, at, 8);
-}
-
-fn put_kind(out: &mut Block, at: &mut Place, kind: MsgKind) {
+fn kind_number(kind: MsgKind) -> u64 {
     match kind {
-        MsgKind::Cancel { id } => put_bare(out, at, 1, id),
-        MsgKind::Activate { order, life } => {
-            put_field(out, at, 0);
-            put_order(out, at, order);
-            put_field(out, at, life);
-        }
-        MsgKind::Expire { id } => put_bare(out, at, 2, id),
+        MsgKind::Cancel { id: _ } => 1,
+        MsgKind::Activate { order: _, life: _ } => 0,
+        MsgKind::Expire { id: _ } => 2,
     }
 }
 
-fn read_msg(block: &mut Block, r: &mut Reader) -> VenueMsg {
-    let eff_ns = field(block, r);
-    let seq = field(block, r);
-    let kind = read_kind(block, r);
-    VenueMsg { eff_ns, seq, kind }
+fn kind_fields(kind: MsgKind) -> Fields {
+    match kind {
+        MsgKind::Cancel { id } => three(id, 0, 0),
+        MsgKind::Activate { order, life } => order_fields(order, life),
+        MsgKind::Expire { id } => three(id, 0, 0),
+    }
 }
 
-fn put_msg(out: &mut Block, at: &mut Place, m: VenueMsg) {
-    let kind = m.kind;
-    put_field(out, at, m.eff_ns);
-    put_field(out, at, m.seq);
-    put_kind(out, at, kind);
+fn read_msg(r: &mut Reader) -> VenueMsg {
+    let f = scan(r, &MSG);
+    hold(r, f[2] <= 2);
+    let g = scan(r, &KIND);
+    let kind = kind_of(f[2], g);
+    check(r, g, kind_fields(kind));
+    VenueMsg {
+        eff_ns: f[0],
+        seq: f[1],
+        kind,
+    }
 }
 
-pub fn read_msgs(block: &mut Block, r: &mut Reader) -> Msgs {
-    let count = size(number(block, r, b"msgs"));
+pub fn read_msgs(r: &mut Reader) -> Msgs {
+    let f = scan(r, b"msgs N\n");
     let mut list = Msgs::new();
-    list.count = count;
-    for i in 0..least(count, msgs::CAPACITY) {
-        label(block, r, b"msg");
-        let m = read_msg(block, r);
-        newline(block, r);
+    list.count = size(f[0]);
+    for i in 0..least(list.count, msgs::CAPACITY) {
+        let m = read_msg(r);
         list.slots[i] = m;
     }
     list
 }
 
-pub fn put_msgs(out: &mut Block, at: &mut Place, list: Msgs) {
-    put_line(out, at, b"msgs", word(list.count));
+fn put_msg(out: &mut Writer, m: VenueMsg) {
+    let kind = m.kind;
+    print(out, &MSG, three(m.eff_ns, m.seq, kind_number(kind)));
+    print(out, &KIND, kind_fields(kind));
+}
+
+pub fn put_msgs(out: &mut Writer, list: Msgs) {
+    print(out, b"msgs N\n", three(word(list.count), 0, 0));
     for i in 0..least(list.count, msgs::CAPACITY) {
-        let m = list.slots[i];
-        put_bytes(out, at, b"msg");
-        put_msg(out, at, m);
-        put_newline(out, at);
+        put_msg(out, list.slots[i]);
     }
 }
 
-// Deliveries: the time, the report, and the fill's record or zeros.
+// Deliveries.
 
-fn read_report(block: &mut Block, r: &mut Reader) -> ReportRec {
-    let ts_ns = field(block, r);
-    let seq = field(block, r);
-    let order_id = field(block, r);
-    let side = read_side(block, r);
-    let kind = read_exec(block, r);
-    let origin = read_origin(block, r);
-    let cancel_pending = flag(block, r);
-    let price = field(block, r);
-    let qty = field(block, r);
-    let last = field(block, r);
-    let cum = field(block, r);
+fn report_of(f: Fields) -> ReportRec {
     ReportRec {
-        ts_ns,
-        seq,
-        order_id,
-        side,
-        kind,
-        origin,
-        cancel_pending,
-        price,
-        qty,
-        last,
-        cum,
+        ts_ns: f[1],
+        seq: f[2],
+        order_id: f[3],
+        side: side_of(f[4]),
+        kind: exec_of(f[5]),
+        origin: origin_of(f[6]),
+        cancel_pending: f[7] == 1,
+        price: f[8],
+        qty: f[9],
+        last: f[10],
+        cum: f[11],
     }
 }
 
-fn put_report(out: &mut Block, at: &mut Place, p: ReportRec) {
+fn report_fields(at_ns: u64, p: ReportRec) -> Fields {
     let side = p.side;
     let kind = p.kind;
     let origin = p.origin;
-    put_field(out, at, p.ts_ns);
-    put_field(out, at, p.seq);
-    put_field(out, at, p.order_id);
-    put_field(out, at, side.number());
-    put_field(out, at, kind.number());
-    put_field(out, at, origin.number());
-    put_field(out, at, flag_number(p.cancel_pending));
-    put_field(out, at, p.price);
-    put_field(out, at, p.qty);
-    put_field(out, at, p.last);
-    put_field(out, at, p.cum);
+    [
+        at_ns,
+        p.ts_ns,
+        p.seq,
+        p.order_id,
+        side.number(),
+        kind.number(),
+        origin.number(),
+        flag_number(p.cancel_pending),
+        p.price,
+        p.qty,
+        p.last,
+        p.cum,
+        0,
+        0,
+        0,
+    ]
 }
 
-fn read_record(block: &mut Block, r: &mut Reader) -> FillRec {
-    let ts_ns = field(block, r);
-    let exec_id = field(block, r);
-    let order_id = field(block, r);
-    let side = read_side(block, r);
-    let price = field(block, r);
-    let qty = field(block, r);
-    FillRec {
-        ts_ns,
-        exec_id,
-        order_id,
-        side,
-        price,
-        qty,
+fn fill_of(f: Fields) -> MaybeFill {
+    if f[0] == 0 {
+        return MaybeFill::None;
     }
+    MaybeFill::Some(FillRec {
+        ts_ns: f[1],
+        exec_id: f[2],
+        order_id: f[3],
+        side: side_of(f[4]),
+        price: f[5],
+        qty: f[6],
+    })
 }
 
-fn put_record(out: &mut Block, at: &mut Place, f: FillRec) {
-    let side = f.side;
-    put_field(out, at, f.ts_ns);
-    put_field(out, at, f.exec_id);
-    put_field(out, at, f.order_id);
-    put_field(out, at, side.number());
-    put_field(out, at, f.price);
-    put_field(out, at, f.qty);
-}
-
-fn read_fill(block: &mut Block, r: &mut Reader) -> MaybeFill {
-    if flag(block, r) {
-        let f = read_record(block, r);
-        return MaybeFill::Some(f);
-    }
-    unused(block, r, 6);
-    MaybeFill::None
-}
-
-fn put_fill(out: &mut Block, at: &mut Place, fill: MaybeFill) {
+fn fill_fields(fill: MaybeFill) -> Fields {
     match fill {
-        MaybeFill::None => put_zeros(out, at, 7),
+        MaybeFill::None => three(0, 0, 0),
         MaybeFill::Some(f) => {
-            put_field(out, at, 1);
-            put_record(out, at, f);
+            let side = f.side;
+            [
+                1,
+                f.ts_ns,
+                f.exec_id,
+                f.order_id,
+                side.number(),
+                f.price,
+                f.qty,
+                0,
+                0,
+                0,
+                0,
+                0,
+                0,
+                0,
+                0,
+            ]
         }
     }
 }
 
-fn read_delivery(block: &mut Block, r: &mut Reader) -> Delivery {
-    let at_ns = field(block, r);
-    let report = read_report(block, r);
-    let fill = read_fill(block, r);
+fn read_delivery(r: &mut Reader) -> Delivery {
+    let f = scan(r, &REPORT);
+    let report = report_of(f);
+    check(r, f, report_fields(f[0], report));
+    let g = scan(r, &FILL);
+    let fill = fill_of(g);
+    check(r, g, fill_fields(fill));
     Delivery {
-        at_ns,
+        at_ns: f[0],
         report,
         fill,
     }
 }
 
-fn put_delivery(out: &mut Block, at: &mut Place, d: Delivery) {
-    let report = d.report;
-    let fill = d.fill;
-    put_field(out, at, d.at_ns);
-    put_report(out, at, report);
-    put_fill(out, at, fill);
-}
-
-pub fn read_deliveries(block: &mut Block, r: &mut Reader) -> Deliveries {
-    let count = size(number(block, r, b"deliveries"));
+pub fn read_deliveries(r: &mut Reader) -> Deliveries {
+    let f = scan(r, b"deliveries N\n");
     let mut list = Deliveries::new();
-    list.count = count;
-    for i in 0..least(count, deliveries::CAPACITY) {
-        label(block, r, b"delivery");
-        let d = read_delivery(block, r);
-        newline(block, r);
+    list.count = size(f[0]);
+    for i in 0..least(list.count, deliveries::CAPACITY) {
+        let d = read_delivery(r);
         list.slots[i] = d;
     }
     list
 }
 
-pub fn put_deliveries(out: &mut Block, at: &mut Place, list: Deliveries) {
-    put_line(out, at, b"deliveries", word(list.count));
+fn put_delivery(out: &mut Writer, d: Delivery) {
+    let report = d.report;
+    let fill = d.fill;
+    print(out, &REPORT, report_fields(d.at_ns, report));
+    print(out, &FILL, fill_fields(fill));
+}
+
+pub fn put_deliveries(out: &mut Writer, list: Deliveries) {
+    print(out, b"deliveries N\n", three(word(list.count), 0, 0));
     for i in 0..least(list.count, deliveries::CAPACITY) {
-        let d = list.slots[i];
-        put_bytes(out, at, b"delivery");
-        put_delivery(out, at, d);
-        put_newline(out, at);
+        put_delivery(out, list.slots[i]);
     }
 }
 
 // Observations and open orders.
 
-fn read_obs(block: &mut Block, r: &mut Reader) -> ObsEntry {
-    let ready_ns = field(block, r);
-    let row = field(block, r);
-    ObsEntry { ready_ns, row }
+fn read_obs(r: &mut Reader) -> ObsEntry {
+    let f = scan(r, &OBS);
+    ObsEntry {
+        ready_ns: f[0],
+        row: f[1],
+    }
 }
 
-pub fn read_observed(block: &mut Block, r: &mut Reader) -> Observed {
-    let count = size(number(block, r, b"observed"));
+pub fn read_observed(r: &mut Reader) -> Observed {
+    let f = scan(r, b"observed N\n");
     let mut list = Observed::new();
-    list.count = count;
-    for i in 0..least(count, observed::CAPACITY) {
-        label(block, r, b"obs");
-        let o = read_obs(block, r);
-        newline(block, r);
-        list.slots[i] = o;
-    }
-    list
-}
-
-pub fn put_observed(out: &mut Block, at: &mut Place, list: Observed) {
-    put_line(out, at, b"observed", word(list.count));
+    list.count = size(f[0]);
     for i in 0..least(list.count, observed::CAPACITY) {
-        let o = list.slots[i];
-        put_pair(out, at, b"obs", o.ready_ns, o.row);
-    }
-}
-
-fn read_open(block: &mut Block, r: &mut Reader) -> OpenOrder {
-    let order_id = field(block, r);
-    let awaiting_cancel_outcome = flag(block, r);
-    OpenOrder {
-        order_id,
-        awaiting_cancel_outcome,
-    }
-}
-
-pub fn read_account(block: &mut Block, r: &mut Reader) -> AgentAccount {
-    let count = size(number(block, r, b"account"));
-    let mut list = AgentAccount::new();
-    list.count = count;
-    for i in 0..least(count, account::CAPACITY) {
-        label(block, r, b"open");
-        let o = read_open(block, r);
-        newline(block, r);
+        let o = read_obs(r);
         list.slots[i] = o;
     }
     list
 }
 
-pub fn put_account(out: &mut Block, at: &mut Place, list: AgentAccount) {
-    put_line(out, at, b"account", word(list.count));
+fn put_obs(out: &mut Writer, o: ObsEntry) {
+    print(out, &OBS, three(o.ready_ns, o.row, 0));
+}
+
+pub fn put_observed(out: &mut Writer, list: Observed) {
+    print(out, b"observed N\n", three(word(list.count), 0, 0));
+    for i in 0..least(list.count, observed::CAPACITY) {
+        put_obs(out, list.slots[i]);
+    }
+}
+
+fn open_fields(o: OpenOrder) -> Fields {
+    three(o.order_id, flag_number(o.awaiting_cancel_outcome), 0)
+}
+
+fn read_open(r: &mut Reader) -> OpenOrder {
+    let f = scan(r, &OPEN);
+    let o = OpenOrder {
+        order_id: f[0],
+        awaiting_cancel_outcome: f[1] == 1,
+    };
+    check(r, f, open_fields(o));
+    o
+}
+
+pub fn read_account(r: &mut Reader) -> AgentAccount {
+    let f = scan(r, b"account N\n");
+    let mut list = AgentAccount::new();
+    list.count = size(f[0]);
     for i in 0..least(list.count, account::CAPACITY) {
-        let o = list.slots[i];
-        put_pair(
-            out,
-            at,
-            b"open",
-            o.order_id,
-            flag_number(o.awaiting_cancel_outcome),
-        );
+        let o = read_open(r);
+        list.slots[i] = o;
+    }
+    list
+}
+
+fn put_open(out: &mut Writer, o: OpenOrder) {
+    print(out, &OPEN, open_fields(o));
+}
+
+pub fn put_account(out: &mut Writer, list: AgentAccount) {
+    print(out, b"account N\n", three(word(list.count), 0, 0));
+    for i in 0..least(list.count, account::CAPACITY) {
+        put_open(out, list.slots[i]);
     }
 }

@@ -1,21 +1,41 @@
-// The reader of lines and fields. The text is read in blocks; where the reader stands is a row of numbers beside the block.
-pub type Block = [u8; 65536];
+// The reader. A format says what has to come: 'N' stands for a number, 'I' for a signed one, and every other byte for itself.
+// One row of numbers holds all that is lent: where the reader stands, a block of the text, and room for the name, the rows and the calls of a case.
+ghost use Prim.Native.Nat.{_≤_};
 
-pub type Reader = [u64; 5];
+pub type Reader = [u64; 24852];
 
-// The reader's numbers: its place in the block, the block's end, the next byte of the text, the number of the line, and 1 from the first bad line on, where the reader stands still.
-const AT: usize = 0;
+// The room for a case, its rows first. A line that needs more is bad.
+pub const MOST_ROWS: usize = 16384;
 
-const UPTO: usize = 1;
+pub const CALLS: usize = 16384;
 
-const BYTE: usize = 2;
+pub const MOST_CALLS: usize = 4096;
 
-const LINE: usize = 3;
+pub const NAME: usize = 20480;
 
-const BAD: usize = 4;
+pub const MOST_NAME: usize = 256;
+
+const BLOCK: usize = 20736;
+
+// Where the reader stands: its place in the block, the block's end, the next byte of the text, the number of its line, and 1 from the first bad line on, where the reader stands still.
+const AT: usize = 24832;
+
+const UPTO: usize = 24833;
+
+const BYTE: usize = 24834;
+
+const LINE: usize = 24835;
+
+const BAD: usize = 24836;
+
+// The lines in which the numbers of the last format stood.
+const LINES: usize = 24837;
 
 // What stands for a byte at the end of the text.
 const END: u64 = 256;
+
+// The numbers of a format, and zeros behind them.
+pub type Fields = [u64; 15];
 
 // Numbers of another type, where they fit by their type.
 
@@ -29,6 +49,15 @@ pub fn word(n: usize) -> u64 {
 
 pub fn size(n: u64) -> usize {
     n as usize
+}
+
+pub fn least(a: usize, b: usize) -> usize
+    ensures { λ r. ⌜ r ≤ b ⌝ }
+{
+    if a < b {
+        return a;
+    }
+    b
 }
 
 pub fn is_bad(r: &Reader) -> bool {
@@ -54,73 +83,60 @@ pub fn hold(r: &mut Reader, holds: bool) {
     }
 }
 
-// The next block, where this one is used up.
-fn refill(block: &mut Block, r: &mut Reader) {
-    if r[AT] < r[UPTO] {
-        return;
+// The next block.
+fn refill(r: &mut Reader) {
+    let mut text = [0u8; 4096];
+    let got = libc::read(0, &mut text);
+    let upto = io::count(got, &text);
+    for i in 0..least(upto, 4096) {
+        r[BLOCK + i] = wide(text[i]);
     }
-    let got = libc::read(0, block);
-    r[UPTO] = word(io::count(got, block));
+    r[UPTO] = word(upto);
     r[AT] = 0;
 }
 
 // Goes to the next byte.
-pub fn step(block: &mut Block, r: &mut Reader) {
-    refill(block, r);
-    let at = size(r[AT]);
+fn step(r: &mut Reader) {
+    if r[BYTE] == wide(b'\n') {
+        r[LINE] = std::num::wrapping_add_u64(r[LINE], 1);
+    }
+    if r[AT] >= r[UPTO] {
+        refill(r);
+    }
     r[BYTE] = END;
-    if at >= size(r[UPTO]) {
-        return;
+    let at = r[AT];
+    if at < r[UPTO] {
+        let i = at % 4096;
+        r[BYTE] = r[BLOCK + i as usize];
+        r[AT] = i + 1;
     }
-    if at >= 65536 {
-        return;
-    }
-    r[BYTE] = wide(block[at]);
-    r[AT] = word(at + 1);
 }
 
-// The byte that has to come.
-pub fn expect(block: &mut Block, r: &mut Reader, byte: u8) {
-    hold(r, at_byte(r, byte));
-    if is_bad(r) {
-        return;
-    }
-    step(block, r);
+// Goes to the first byte of the text.
+pub fn begin(r: &mut Reader) {
+    r[LINE] = 1;
+    step(r);
 }
 
 // The byte that stands here: the end, and a space, are none that a name has.
-pub fn take_byte(block: &mut Block, r: &mut Reader) -> u8 {
+pub fn take_byte(r: &mut Reader) -> u64 {
     let byte = r[BYTE];
-    if byte == wide(b' ') {
-        r[BAD] = 1;
+    hold(r, byte != END && byte != wide(b' '));
+    if !is_bad(r) {
+        step(r);
     }
-    if byte >= END {
-        r[BAD] = 1;
-        return 0;
-    }
-    step(block, r);
-    byte as u8
+    byte
 }
 
-// The name that a line begins with.
-pub fn label(block: &mut Block, r: &mut Reader, name: &[u8]) {
-    if is_bad(r) {
-        return;
-    }
-    if r[LINE] < u64::MAX {
-        r[LINE] = r[LINE] + 1;
-    }
-    for i in 0..name.len() {
-        expect(block, r, name[i]);
+// The byte that has to come.
+pub fn expect(r: &mut Reader, byte: u8) {
+    hold(r, at_byte(r, byte));
+    if !is_bad(r) {
+        step(r);
     }
 }
 
-pub fn newline(block: &mut Block, r: &mut Reader) {
-    expect(block, r, b'\n');
-}
-
-fn is_digit(r: &Reader) -> bool {
-    let byte = r[BYTE];
+fn is_digit(byte: u64) -> bool {
     if byte < 48 {
         return false;
     }
@@ -128,68 +144,94 @@ fn is_digit(r: &Reader) -> bool {
 }
 
 // The number with one more digit; bad where it passes 64 bits, or nothing more stands here.
-fn digit(block: &mut Block, r: &mut Reader, value: u64) -> u64 {
-    let byte = r[BYTE];
-    if byte < 48 {
+fn digit(r: &mut Reader, value: u64) -> u64 {
+    let d = std::num::wrapping_sub_u64(r[BYTE], 48);
+    if d > 9 {
         r[BAD] = 1;
         return 0;
     }
-    if byte >= 58 {
-        r[BAD] = 1;
-        return 0;
-    }
-    let d = byte - 48;
     if value > (u64::MAX - d) / 10 {
         r[BAD] = 1;
         return 0;
     }
-    step(block, r);
+    step(r);
     value * 10 + d
 }
 
 // A decimal number: one digit or more. No text has as many digits as the loop has turns.
-pub fn decimal(block: &mut Block, r: &mut Reader) -> u64 {
-    let mut value = digit(block, r, 0);
+fn decimal(r: &mut Reader) -> u64 {
+    let mut value = digit(r, 0);
     for _ in 0..u64::MAX {
         if is_bad(r) {
             break;
         }
-        if !is_digit(r) {
+        if !is_digit(r[BYTE]) {
             break;
         }
-        value = digit(block, r, value);
+        value = digit(r, value);
     }
     value
 }
 
-// A field: a space, then the number.
-pub fn field(block: &mut Block, r: &mut Reader) -> u64 {
-    expect(block, r, b' ');
+// A signed number in the two's complement of 64 bits.
+fn signed(r: &mut Reader) -> u64 {
+    if at_byte(r, b'-') {
+        step(r);
+        let n = decimal(r);
+        hold(r, n <= 9223372036854775808);
+        return std::num::wrapping_sub_u64(0, n);
+    }
+    let n = decimal(r);
+    hold(r, n <= 9223372036854775807);
+    n
+}
+
+pub fn is_field(kind: u8) -> bool {
+    kind == b'N' || kind == b'I'
+}
+
+pub fn field(r: &mut Reader, kind: u8) -> u64 {
     if is_bad(r) {
         return 0;
     }
-    decimal(block, r)
+    if kind == b'I' {
+        return signed(r);
+    }
+    decimal(r)
 }
 
-// A field that is yes or no.
-pub fn flag(block: &mut Block, r: &mut Reader) -> bool {
-    let n = field(block, r);
-    hold(r, n <= 1);
-    n == 1
+// The numbers of the text that comes, if it is in this format.
+pub fn scan(r: &mut Reader, format: &[u8]) -> Fields {
+    let mut f = [0u64; 15];
+    let mut k = 0usize;
+    for i in 0..format.len() {
+        let kind = format[i];
+        if !is_field(kind) {
+            expect(r, kind);
+        } else if k < 15 {
+            r[LINES + k] = r[LINE];
+            f[k] = field(r, kind);
+            k += 1;
+        }
+    }
+    f
 }
 
-// Fields that have to be 0.
-pub fn unused(block: &mut Block, r: &mut Reader, fields: usize) {
-    for _ in 0..fields {
-        let n = field(block, r);
-        hold(r, n == 0);
+// The first bad line is at most this one.
+fn bad_by(r: &mut Reader, line: u64) {
+    r[BAD] = 1;
+    if line < r[LINE] {
+        r[LINE] = line;
     }
 }
 
-// A line of one number.
-pub fn number(block: &mut Block, r: &mut Reader, name: &[u8]) -> u64 {
-    label(block, r, name);
-    let n = field(block, r);
-    newline(block, r);
-    n
+// The numbers of the last format have to be those that would be written for what they were read as: so an enum's number is one of its own, and an unused field 0.
+pub fn check(r: &mut Reader, read: Fields, written: Fields) {
+    for k in 0..15usize {
+        if read[k] != written[k] {
+            let line = r[LINES + k];
+            bad_by(r, line);
+            return;
+        }
+    }
 }

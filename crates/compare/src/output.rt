@@ -1,12 +1,18 @@
-// The writer of lines and fields. The text is gathered in a block and written when it is full; `at` holds the first free place.
-use super::input::Block;
+// The writer, with the formats of the reader. One row of numbers holds the bytes to be written, and before them how many they are.
+use super::input::Fields;
+use super::input::is_field;
+use super::input::least;
+use super::input::size;
+use super::input::wide;
 
-pub type Place = [usize; 1];
+pub type Writer = [u64; 4097];
 
-// Writes what is gathered.
-pub fn flush(out: &Block, at: &mut Place) {
-    write_part(out, at[0]);
-    at[0] = 0;
+fn bytes_of(out: &Writer, length: usize) -> [u8; 4096] {
+    let mut text = [0u8; 4096];
+    for i in 0..least(length, 4096) {
+        text[i] = (out[1 + i] % 256) as u8;
+    }
+    text
 }
 
 fn write_part(text: &[u8], length: usize) {
@@ -15,75 +21,57 @@ fn write_part(text: &[u8], length: usize) {
     }
 }
 
-pub fn put(out: &mut Block, at: &mut Place, byte: u8) {
-    if at[0] >= 65536 {
-        flush(out, at);
-    }
-    let i = at[0];
-    if i < 65536 {
-        out[i] = byte;
-        at[0] = i + 1;
-    }
+// Writes what is gathered.
+pub fn flush(out: &mut Writer) {
+    let length = size(out[0]);
+    let text = bytes_of(out, length);
+    write_part(&text, length);
+    out[0] = 0;
 }
 
-pub fn put_bytes(out: &mut Block, at: &mut Place, bytes: &[u8]) {
-    for i in 0..bytes.len() {
-        put(out, at, bytes[i]);
+pub fn put(out: &mut Writer, byte: u64) {
+    if out[0] >= 4096 {
+        flush(out);
     }
+    let at = out[0] % 4096;
+    let i = at as usize;
+    out[1 + i] = byte;
+    out[0] = at + 1;
 }
 
-fn put_number(out: &mut Block, at: &mut Place, n: u64) {
+fn put_number(out: &mut Writer, n: u64) {
     let mut text = [0u8; 20];
     let k = io::decimal(n, &mut text);
-    put_bytes(out, at, &text[..k]);
-}
-
-// A field: a space, then the number.
-pub fn put_field(out: &mut Block, at: &mut Place, n: u64) {
-    put(out, at, b' ');
-    put_number(out, at, n);
-}
-
-pub fn put_newline(out: &mut Block, at: &mut Place) {
-    put(out, at, b'\n');
-}
-
-// A line of one number.
-pub fn put_line(out: &mut Block, at: &mut Place, name: &[u8], n: u64) {
-    put_bytes(out, at, name);
-    put_field(out, at, n);
-    put_newline(out, at);
-}
-
-// A line of two numbers.
-pub fn put_pair(out: &mut Block, at: &mut Place, name: &[u8], n: u64, m: u64) {
-    put_bytes(out, at, name);
-    put_field(out, at, n);
-    put_line(out, at, b"", m);
-}
-
-pub fn put_zeros(out: &mut Block, at: &mut Place, fields: usize) {
-    for _ in 0..fields {
-        put_field(out, at, 0);
+    for i in 0..least(k, 20) {
+        put(out, wide(text[i]));
     }
 }
 
-// How far a number is from 0. The least has no opposite, so below 0 the distance is taken from -1.
-fn magnitude(n: i64) -> u64 {
-    if n < 0 {
-        let below = -1 - n;
-        return below as u64 + 1;
+// From 2^63 on a signed number is below 0.
+fn put_field(out: &mut Writer, kind: u8, n: u64) {
+    if kind == b'I' && n > 9223372036854775807 {
+        put(out, wide(b'-'));
+        put_number(out, std::num::wrapping_sub_u64(0, n));
+        return;
     }
-    n as u64
+    put_number(out, n);
 }
 
-// A line of one signed number.
-pub fn put_signed(out: &mut Block, at: &mut Place, name: &[u8], n: i64) {
-    put_bytes(out, at, name);
-    put(out, at, b' ');
-    if n < 0 {
-        put(out, at, b'-');
+// The numbers in this format.
+pub fn print(out: &mut Writer, format: &[u8], f: Fields) {
+    let mut k = 0usize;
+    for i in 0..format.len() {
+        let kind = format[i];
+        if !is_field(kind) {
+            put(out, wide(kind));
+        } else if k < 15 {
+            put_field(out, kind, f[k]);
+            k += 1;
+        }
     }
-    put_number(out, at, magnitude(n));
-    put_newline(out, at);
+}
+
+// The numbers of a short format.
+pub fn three(a: u64, b: u64, c: u64) -> Fields {
+    [a, b, c, 0, 0, 0, 0, 0, 0, 0, 0, 0, 0, 0, 0]
 }

@@ -9,32 +9,15 @@ use super::entries::read_deliveries;
 use super::entries::read_msgs;
 use super::entries::read_observed;
 use super::entries::read_orders;
-use super::input::Block;
+use super::input::Fields;
 use super::input::Reader;
-use super::input::at_byte;
-use super::input::decimal;
-use super::input::expect;
-use super::input::field;
-use super::input::flag;
-use super::input::hold;
-use super::input::is_bad;
-use super::input::label;
-use super::input::newline;
-use super::input::number;
-use super::input::step;
-use super::input::unused;
-use super::output::Place;
-use super::output::put_line;
-use super::output::put_pair;
-use super::output::put_signed;
-use account::AgentAccount;
-use deliveries::Deliveries;
-use msgs::Msgs;
+use super::input::check;
+use super::input::scan;
+use super::output::Writer;
+use super::output::print;
 use numbers::MaybeU64;
 use numbers::position::Moved;
 use numbers::position::Position;
-use observed::Observed;
-use orders::Orders;
 use state::AgentView;
 use state::Clock;
 use state::Control;
@@ -46,93 +29,67 @@ use state::Phase;
 use state::Seqs;
 use state::Status;
 
-// The largest distance of a position below 0.
-const LEAST: u64 = 9223372036854775808;
+// The lines before the lists, and those behind them.
+const HEAD: [u8; 129] =
+    *b"phase N\nresume N\ncursor N\ncurrow N N\nnow N\nstep N\nstatus N N\nrng N\nstampseq N\nnextmsg N\nnextexec N\nlastdelivery N\nlastobserved N\n";
+
+const TAIL: [u8; 137] =
+    *b"position I\nlivebuy N\nlivesell N\nmark2 N N\nagent I\nlastobsrow N N\nlocalrejects N\ndeliveredfills N\nhalts N\nvenuefills N\neofmsgs N\neofobs N\n";
 
 // Optional numbers: 1 and the number, or 0 and 0.
 
-fn option_fields(block: &mut Block, r: &mut Reader) -> MaybeU64 {
-    if flag(block, r) {
-        let n = field(block, r);
-        return MaybeU64::Some(n);
+fn option_of(has: u64, n: u64) -> MaybeU64 {
+    if has == 0 {
+        return MaybeU64::None;
     }
-    unused(block, r, 1);
-    MaybeU64::None
+    MaybeU64::Some(n)
 }
 
-pub fn read_option(block: &mut Block, r: &mut Reader, name: &[u8]) -> MaybeU64 {
-    label(block, r, name);
-    let n = option_fields(block, r);
-    newline(block, r);
-    n
-}
-
-fn put_option(out: &mut Block, at: &mut Place, name: &[u8], n: MaybeU64) {
+fn has(n: MaybeU64) -> u64 {
     match n {
-        MaybeU64::None => put_pair(out, at, name, 0, 0),
-        MaybeU64::Some(n) => put_pair(out, at, name, 1, n),
+        MaybeU64::None => 0,
+        MaybeU64::Some(_) => 1,
     }
 }
 
-// Positions: signed numbers.
+fn or_zero(n: MaybeU64) -> u64 {
+    match n {
+        MaybeU64::None => 0,
+        MaybeU64::Some(n) => n,
+    }
+}
 
-// The position that a move from 0 leads to. Where there is none the line is bad.
-fn moved_to(r: &mut Reader, moved: Moved) -> Position {
+// Positions: signed numbers, in the two's complement of 64 bits.
+
+fn position_of(n: u64) -> Position {
+    let zero = Position { lots: 0 };
+    let mut moved = zero.checked_add(n);
+    if n > 9223372036854775807 {
+        let below = Position { lots: -1 };
+        moved = below.checked_sub(u64::MAX - n);
+    }
     match moved {
-        Moved::Out => {
-            hold(r, false);
-            Position { lots: 0 }
-        }
+        Moved::Out => zero,
         Moved::To(p) => p,
     }
 }
 
-// A number, or one behind a minus.
-fn signed_number(block: &mut Block, r: &mut Reader) -> Position {
-    let zero = Position { lots: 0 };
-    if at_byte(r, b'-') {
-        step(block, r);
-        let n = decimal(block, r);
-        if n == LEAST {
-            return Position {
-                lots: -9223372036854775808,
-            };
-        }
-        let below = zero.checked_sub(n);
-        return moved_to(r, below);
+fn signed_number(n: i64) -> u64 {
+    if n < 0 {
+        let below = -1 - n;
+        return std::num::wrapping_sub_u64(u64::MAX, below as u64);
     }
-    let n = decimal(block, r);
-    let above = zero.checked_add(n);
-    moved_to(r, above)
+    n as u64
 }
 
-fn read_position(block: &mut Block, r: &mut Reader, name: &[u8]) -> Position {
-    label(block, r, name);
-    expect(block, r, b' ');
-    if is_bad(r) {
-        return Position { lots: 0 };
-    }
-    let p = signed_number(block, r);
-    newline(block, r);
-    p
-}
+// The enums by their numbers, as in the lists.
 
-fn put_position(out: &mut Block, at: &mut Place, name: &[u8], p: Position) {
-    put_signed(out, at, name, p.lots);
-}
-
-// Where the advance stands.
-
-fn read_phase(block: &mut Block, r: &mut Reader, name: &[u8]) -> Phase {
-    let n = number(block, r, name);
+fn phase_of(n: u64) -> Phase {
     match n {
         1 => Phase::BeforeMatch,
         3 => Phase::ObsQueued,
         4 => Phase::AwaitDecision,
-        _ => {
-            hold(r, n == 5);
-            Phase::Terminal
-        }
+        _ => Phase::Terminal,
     }
 }
 
@@ -145,187 +102,40 @@ fn phase_number(phase: Phase) -> u64 {
     }
 }
 
-fn read_halt(block: &mut Block, r: &mut Reader) -> HaltReason {
-    let n = field(block, r);
+fn halt_of(n: u64) -> HaltReason {
     match n {
         5 => HaltReason::LedgerOverflow,
         6 => HaltReason::TimeOverflow,
-        _ => {
-            hold(r, n == 7);
-            HaltReason::CounterOverflow
-        }
+        _ => HaltReason::CounterOverflow,
     }
 }
 
-fn status_fields(block: &mut Block, r: &mut Reader) -> Status {
-    let n = field(block, r);
-    if n == 3 {
-        let reason = read_halt(block, r);
-        return Status::Halted(reason);
-    }
-    hold(r, n <= 2);
-    unused(block, r, 1);
+fn status_of(n: u64, halt: u64) -> Status {
     match n {
         0 => Status::Running,
         1 => Status::EndOfData,
-        _ => Status::Truncated,
+        2 => Status::Truncated,
+        _ => Status::Halted(halt_of(halt)),
     }
 }
 
-fn read_status(block: &mut Block, r: &mut Reader) -> Status {
-    label(block, r, b"status");
-    let s = status_fields(block, r);
-    newline(block, r);
-    s
-}
-
-fn put_status(out: &mut Block, at: &mut Place, status: Status) {
+fn status_number(status: Status) -> u64 {
     match status {
-        Status::Running => put_pair(out, at, b"status", 0, 0),
-        Status::EndOfData => put_pair(out, at, b"status", 1, 0),
-        Status::Truncated => put_pair(out, at, b"status", 2, 0),
-        Status::Halted(reason) => put_pair(out, at, b"status", 3, reason.number()),
+        Status::Running => 0,
+        Status::EndOfData => 1,
+        Status::Truncated => 2,
+        Status::Halted(_) => 3,
     }
 }
 
-// The time stands among the lines of the control.
-struct Timed {
-    control: Control,
-    now_ns: u64,
-}
-
-fn read_control(block: &mut Block, r: &mut Reader) -> Timed {
-    let phase = read_phase(block, r, b"phase");
-    let resume = read_phase(block, r, b"resume");
-    let cursor = number(block, r, b"cursor");
-    let cur_row = read_option(block, r, b"currow");
-    let now_ns = number(block, r, b"now");
-    let step = number(block, r, b"step");
-    let status = read_status(block, r);
-    let control = Control {
-        phase,
-        resume,
-        cursor,
-        cur_row,
-        step,
-        status,
-    };
-    Timed { control, now_ns }
-}
-
-fn put_control(out: &mut Block, at: &mut Place, c: Control, now_ns: u64) {
-    let phase = c.phase;
-    let resume = c.resume;
-    let cur_row = c.cur_row;
-    let status = c.status;
-    put_line(out, at, b"phase", phase_number(phase));
-    put_line(out, at, b"resume", phase_number(resume));
-    put_line(out, at, b"cursor", c.cursor);
-    put_option(out, at, b"currow", cur_row);
-    put_line(out, at, b"now", now_ns);
-    put_line(out, at, b"step", c.step);
-    put_status(out, at, status);
-}
-
-// The next numbers, the clock, the gate, the agent and the counters.
-
-fn read_seqs(block: &mut Block, r: &mut Reader) -> Seqs {
-    let stamp_seq = number(block, r, b"stampseq");
-    let next_msg_seq = number(block, r, b"nextmsg");
-    let next_exec_id = number(block, r, b"nextexec");
-    Seqs {
-        stamp_seq,
-        next_msg_seq,
-        next_exec_id,
+fn halt_number(status: Status) -> u64 {
+    match status {
+        Status::Running => 0,
+        Status::EndOfData => 0,
+        Status::Truncated => 0,
+        Status::Halted(reason) => reason.number(),
     }
 }
-
-fn put_seqs(out: &mut Block, at: &mut Place, s: Seqs) {
-    put_line(out, at, b"stampseq", s.stamp_seq);
-    put_line(out, at, b"nextmsg", s.next_msg_seq);
-    put_line(out, at, b"nextexec", s.next_exec_id);
-}
-
-fn read_clock(block: &mut Block, r: &mut Reader, now_ns: u64) -> Clock {
-    let last_delivery_ns = number(block, r, b"lastdelivery");
-    let last_observed_ns = number(block, r, b"lastobserved");
-    Clock {
-        now_ns,
-        last_delivery_ns,
-        last_observed_ns,
-    }
-}
-
-fn put_clock(out: &mut Block, at: &mut Place, c: Clock) {
-    put_line(out, at, b"lastdelivery", c.last_delivery_ns);
-    put_line(out, at, b"lastobserved", c.last_observed_ns);
-}
-
-fn read_gate(block: &mut Block, r: &mut Reader) -> GateState {
-    let venue_pos = read_position(block, r, b"position");
-    let live_buy_lots = number(block, r, b"livebuy");
-    let live_sell_lots = number(block, r, b"livesell");
-    let mark2 = read_option(block, r, b"mark2");
-    GateState {
-        venue_pos,
-        live_buy_lots,
-        live_sell_lots,
-        mark2,
-    }
-}
-
-fn put_gate(out: &mut Block, at: &mut Place, g: GateState) {
-    let venue_pos = g.venue_pos;
-    let mark2 = g.mark2;
-    put_position(out, at, b"position", venue_pos);
-    put_line(out, at, b"livebuy", g.live_buy_lots);
-    put_line(out, at, b"livesell", g.live_sell_lots);
-    put_option(out, at, b"mark2", mark2);
-}
-
-fn read_agent(block: &mut Block, r: &mut Reader) -> AgentView {
-    let pos = read_position(block, r, b"agent");
-    let last_obs_row = read_option(block, r, b"lastobsrow");
-    let delivered_local_rejects = number(block, r, b"localrejects");
-    let delivered_fills = number(block, r, b"deliveredfills");
-    AgentView {
-        pos,
-        last_obs_row,
-        delivered_local_rejects,
-        delivered_fills,
-    }
-}
-
-fn put_agent(out: &mut Block, at: &mut Place, a: AgentView) {
-    let pos = a.pos;
-    let last_obs_row = a.last_obs_row;
-    put_position(out, at, b"agent", pos);
-    put_option(out, at, b"lastobsrow", last_obs_row);
-    put_line(out, at, b"localrejects", a.delivered_local_rejects);
-    put_line(out, at, b"deliveredfills", a.delivered_fills);
-}
-
-fn read_counters(block: &mut Block, r: &mut Reader) -> Counters {
-    let halts = number(block, r, b"halts");
-    let venue_fills = number(block, r, b"venuefills");
-    let eof_dropped_msgs = number(block, r, b"eofmsgs");
-    let eof_dropped_obs = number(block, r, b"eofobs");
-    Counters {
-        halts,
-        venue_fills,
-        eof_dropped_msgs,
-        eof_dropped_obs,
-    }
-}
-
-fn put_counters(out: &mut Block, at: &mut Place, c: Counters) {
-    put_line(out, at, b"halts", c.halts);
-    put_line(out, at, b"venuefills", c.venue_fills);
-    put_line(out, at, b"eofmsgs", c.eof_dropped_msgs);
-    put_line(out, at, b"eofobs", c.eof_dropped_obs);
-}
-
-// The state in its parts, each a few lines or lists.
 
 struct Head {
     control: Control,
@@ -334,80 +144,75 @@ struct Head {
     seqs: Seqs,
 }
 
-fn read_head(block: &mut Block, r: &mut Reader) -> Head {
-    let timed = read_control(block, r);
-    let control = timed.control;
-    let rng_latency = number(block, r, b"rng");
-    let seqs = read_seqs(block, r);
-    let clock = read_clock(block, r, timed.now_ns);
+fn head_of(f: Fields) -> Head {
     Head {
-        control,
-        clock,
-        rng_latency,
-        seqs,
+        control: Control {
+            phase: phase_of(f[0]),
+            resume: phase_of(f[1]),
+            cursor: f[2],
+            cur_row: option_of(f[3], f[4]),
+            step: f[6],
+            status: status_of(f[7], f[8]),
+        },
+        clock: Clock {
+            now_ns: f[5],
+            last_delivery_ns: f[13],
+            last_observed_ns: f[14],
+        },
+        rng_latency: f[9],
+        seqs: Seqs {
+            stamp_seq: f[10],
+            next_msg_seq: f[11],
+            next_exec_id: f[12],
+        },
     }
 }
 
-fn put_head(out: &mut Block, at: &mut Place, s: KernelState) {
+fn head_fields(h: Head) -> Fields {
+    let c = h.control;
+    let clock = h.clock;
+    let seqs = h.seqs;
+    let phase = c.phase;
+    let resume = c.resume;
+    let row = c.cur_row;
+    let status = c.status;
+    [
+        phase_number(phase),
+        phase_number(resume),
+        c.cursor,
+        has(row),
+        or_zero(row),
+        clock.now_ns,
+        c.step,
+        status_number(status),
+        halt_number(status),
+        h.rng_latency,
+        seqs.stamp_seq,
+        seqs.next_msg_seq,
+        seqs.next_exec_id,
+        clock.last_delivery_ns,
+        clock.last_observed_ns,
+    ]
+}
+
+fn read_head(r: &mut Reader) -> Head {
+    let f = scan(r, &HEAD);
+    let h = head_of(f);
+    check(r, f, head_fields(h));
+    h
+}
+
+fn put_head(out: &mut Writer, s: KernelState) {
     let control = s.control;
     let clock = s.clock;
     let seqs = s.seqs;
-    put_control(out, at, control, clock.now_ns);
-    put_line(out, at, b"rng", s.rng_latency);
-    put_seqs(out, at, seqs);
-    put_clock(out, at, clock);
-}
-
-struct Venue {
-    orders: Orders,
-    msgs: Msgs,
-    awaiting: Orders,
-}
-
-fn read_venue(block: &mut Block, r: &mut Reader) -> Venue {
-    let orders = read_orders(block, r, b"orders");
-    let msgs = read_msgs(block, r);
-    let awaiting = read_orders(block, r, b"awaiting");
-    Venue {
-        orders,
-        msgs,
-        awaiting,
-    }
-}
-
-fn put_venue(out: &mut Block, at: &mut Place, s: KernelState) {
-    let orders = s.orders;
-    let msgs = s.msgs;
-    let awaiting = s.awaiting;
-    put_orders(out, at, b"orders", orders);
-    put_msgs(out, at, msgs);
-    put_orders(out, at, b"awaiting", awaiting);
-}
-
-struct Queues {
-    deliveries: Deliveries,
-    observed: Observed,
-    account: AgentAccount,
-}
-
-fn read_queues(block: &mut Block, r: &mut Reader) -> Queues {
-    let deliveries = read_deliveries(block, r);
-    let observed = read_observed(block, r);
-    let account = read_account(block, r);
-    Queues {
-        deliveries,
-        observed,
-        account,
-    }
-}
-
-fn put_queues(out: &mut Block, at: &mut Place, s: KernelState) {
-    let deliveries = s.deliveries;
-    let observed = s.observed;
-    let account = s.account;
-    put_deliveries(out, at, deliveries);
-    put_observed(out, at, observed);
-    put_account(out, at, account);
+    let h = Head {
+        control,
+        clock,
+        rng_latency: s.rng_latency,
+        seqs,
+    };
+    print(out, &HEAD, head_fields(h));
 }
 
 struct Tail {
@@ -416,43 +221,94 @@ struct Tail {
     counters: Counters,
 }
 
-fn read_tail(block: &mut Block, r: &mut Reader) -> Tail {
-    let gate = read_gate(block, r);
-    let agent = read_agent(block, r);
-    let counters = read_counters(block, r);
+fn tail_of(f: Fields) -> Tail {
     Tail {
-        gate,
-        agent,
-        counters,
+        gate: GateState {
+            venue_pos: position_of(f[0]),
+            live_buy_lots: f[1],
+            live_sell_lots: f[2],
+            mark2: option_of(f[3], f[4]),
+        },
+        agent: AgentView {
+            pos: position_of(f[5]),
+            last_obs_row: option_of(f[6], f[7]),
+            delivered_local_rejects: f[8],
+            delivered_fills: f[9],
+        },
+        counters: Counters {
+            halts: f[10],
+            venue_fills: f[11],
+            eof_dropped_msgs: f[12],
+            eof_dropped_obs: f[13],
+        },
     }
 }
 
-fn put_tail(out: &mut Block, at: &mut Place, s: KernelState) {
+fn tail_fields(t: Tail) -> Fields {
+    let gate = t.gate;
+    let agent = t.agent;
+    let counters = t.counters;
+    let venue_pos = gate.venue_pos;
+    let pos = agent.pos;
+    let mark = gate.mark2;
+    let row = agent.last_obs_row;
+    [
+        signed_number(venue_pos.lots),
+        gate.live_buy_lots,
+        gate.live_sell_lots,
+        has(mark),
+        or_zero(mark),
+        signed_number(pos.lots),
+        has(row),
+        or_zero(row),
+        agent.delivered_local_rejects,
+        agent.delivered_fills,
+        counters.halts,
+        counters.venue_fills,
+        counters.eof_dropped_msgs,
+        counters.eof_dropped_obs,
+        0,
+    ]
+}
+
+fn read_tail(r: &mut Reader) -> Tail {
+    let f = scan(r, &TAIL);
+    let t = tail_of(f);
+    check(r, f, tail_fields(t));
+    t
+}
+
+fn put_tail(out: &mut Writer, s: KernelState) {
     let gate = s.gate;
     let agent = s.agent;
     let counters = s.counters;
-    put_gate(out, at, gate);
-    put_agent(out, at, agent);
-    put_counters(out, at, counters);
+    let t = Tail {
+        gate,
+        agent,
+        counters,
+    };
+    print(out, &TAIL, tail_fields(t));
 }
 
-fn whole(h: Head, v: Venue, q: Queues, t: Tail) -> KernelState {
-    let control = h.control;
-    let clock = h.clock;
-    let seqs = h.seqs;
-    let orders = v.orders;
-    let msgs = v.msgs;
-    let awaiting = v.awaiting;
-    let gate = t.gate;
-    let deliveries = q.deliveries;
-    let observed = q.observed;
-    let agent = t.agent;
-    let account = q.account;
-    let counters = t.counters;
+pub fn read_state(r: &mut Reader) -> KernelState {
+    let head = read_head(r);
+    let orders = read_orders(r, b"orders N\n");
+    let msgs = read_msgs(r);
+    let awaiting = read_orders(r, b"awaiting N\n");
+    let deliveries = read_deliveries(r);
+    let observed = read_observed(r);
+    let account = read_account(r);
+    let tail = read_tail(r);
+    let control = head.control;
+    let clock = head.clock;
+    let seqs = head.seqs;
+    let gate = tail.gate;
+    let agent = tail.agent;
+    let counters = tail.counters;
     KernelState {
         control,
         clock,
-        rng_latency: h.rng_latency,
+        rng_latency: head.rng_latency,
         seqs,
         orders,
         msgs,
@@ -466,17 +322,19 @@ fn whole(h: Head, v: Venue, q: Queues, t: Tail) -> KernelState {
     }
 }
 
-pub fn read_state(block: &mut Block, r: &mut Reader) -> KernelState {
-    let h = read_head(block, r);
-    let v = read_venue(block, r);
-    let q = read_queues(block, r);
-    let t = read_tail(block, r);
-    whole(h, v, q, t)
-}
-
-pub fn put_state(out: &mut Block, at: &mut Place, s: KernelState) {
-    put_head(out, at, s);
-    put_venue(out, at, s);
-    put_queues(out, at, s);
-    put_tail(out, at, s);
+pub fn put_state(out: &mut Writer, s: KernelState) {
+    let orders = s.orders;
+    let msgs = s.msgs;
+    let awaiting = s.awaiting;
+    let deliveries = s.deliveries;
+    let observed = s.observed;
+    let account = s.account;
+    put_head(out, s);
+    put_orders(out, b"orders N\n", orders);
+    put_msgs(out, msgs);
+    put_orders(out, b"awaiting N\n", awaiting);
+    put_deliveries(out, deliveries);
+    put_observed(out, observed);
+    put_account(out, account);
+    put_tail(out, s);
 }

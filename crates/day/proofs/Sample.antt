@@ -8,7 +8,8 @@ use Rattle.rules.specs.Log.{eventWords, written}
 use Rattle.rules.proofs.Sample as rules
 use Rattle.text.specs.Bytes.{bytes}
 use Rattle.text.specs.Write.{digits, decimal, signed}
-use Rattle.lines.specs.Print.{all, kindName, reportLine, fillLine, shortLine, oneLine, lineOn, eventLine, printed, callText, filledQty, filledFrom, filledAfter, lastLine, badLine}
+use Rattle.logline.specs.Record.{all, kindName, reportLine, fillLine, shortLine, oneLine, lineOn, eventLine}
+use Rattle.lines.specs.Print.{printed, callText, filledQty, filledFrom, filledAfter, lastLine, badLine}
 use Rattle.runtext.specs.Read.{readText}
 use Rattle.runtext.proofs.Examples as runtext
 use Rattle.day.specs.Day.{passedOn, turned, printedBy}

@@ -6,7 +6,8 @@ use lib.IntN.{negsuc}
 use Rattle.numbers.specs.Choice.{pick}
 use Rattle.text.specs.Bytes.{bytes}
 use Rattle.text.specs.Write.{digits, decimal, signed}
-use Rattle.lines.specs.Print.{all, kindName, reportLine, shortLine, lineOn, eventLine, printed, callText, lastLine, badLine}
+use Rattle.logline.specs.Record.{all, kindName, reportLine, shortLine, lineOn, eventLine}
+use Rattle.lines.specs.Print.{printed, callText, lastLine, badLine}
 
 -- the records of the sample's second call
 second : List ℕ

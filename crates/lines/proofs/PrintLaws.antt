@@ -1,4 +1,4 @@
--- A line written piece by piece, and the lines of a log written one by one. Assumes nothing.
+-- The lines of a log written one by one. Assumes nothing.
 use Prim.Native.Nat.{ℕ, suc, _+_, _-_, _*_, _≤_, _<_, min}
 use mathlib.Core.Path.{_≡_, refl, sym, ap, _∙_}
 use mathlib.Core.List.{List, [], _∷_, _++_}
@@ -9,16 +9,9 @@ use borrow.Author.Tests.{lt-ltb, le-ltb}
 use Rattle.numbers.specs.Choice.{pick}
 use Rattle.text.specs.Bytes.{bytes}
 use Rattle.text.specs.Write.{Text, texted}
-use Rattle.lines.specs.Print.{all, eventLine, printed, recordsOf, callText, filledQty, filledFrom, filledAfter}
+use Rattle.logline.specs.Record.{eventLine}
+use Rattle.lines.specs.Print.{printed, recordsOf, callText, filledQty, filledFrom, filledAfter}
 use Rattle.text.proofs.WriteLaws.{texted-append}
-
-pub all-piece : (t : Text) (p : List ℕ) (ps : List (List ℕ)) → texted t (all (p ∷ ps)) ≡ texted (texted t p) (all ps)
-unfolding all
-all-piece t p ps = texted-append t p (all ps)
-
-pub all-none : (t : Text) → texted t (all []) ≡ t
-unfolding all texted
-all-none t = refl
 
 -- ---- the records of a log from place i on, of n
 module _ (log : List ℕ) (n i : ℕ) where

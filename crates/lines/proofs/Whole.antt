@@ -10,7 +10,8 @@ use Rattle.numbers.specs.Choice.{pick}
 use Rattle.text.specs.Bytes.{bytes}
 use Rattle.text.specs.Write.{textAt, texted, decimal}
 use Rattle.text.proofs.Whole.{texted-whole, word-most}
-use Rattle.lines.specs.Print.{word, all, kindName, reportLine, fillLine, shortLine, oneLine, lineOn, eventLine, printed, recordsOf, callText}
+use Rattle.logline.specs.Record.{word, all, kindName, reportLine, fillLine, shortLine, oneLine, lineOn, eventLine}
+use Rattle.lines.specs.Print.{printed, recordsOf, callText}
 
 -- a list of words of 64 bits
 unfoldable pub Words : List ℕ → Type 0

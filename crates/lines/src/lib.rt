@@ -1,4 +1,6 @@
-// The lines that `replay` prints: one for each record of the log, `cut`, the last line, and `bad`.
+// The lines that `replay` prints: those of a call, with `cut`, the last line, and `bad`.
+use logline::put_event;
+use logline::word;
 use numbers::position::Position;
 use text::write::put_byte;
 use text::write::put_bytes;
@@ -6,98 +8,9 @@ use text::write::put_field;
 use text::write::put_signed;
 ghost use mathlib.Core.Path.{_≡_};
 ghost use Prim.Native.Nat.{_+_, _/_, min};
-ghost use lib.ListN.{length, getD};
+ghost use lib.ListN.{length};
 ghost use Rattle.text.specs.Write.{textAt, texted};
-ghost use Rattle.lines.specs.Print.{kindName, reportLine, fillLine, shortLine, oneLine, eventLine, callText, lastLine, badLine, filledQty, filledAfter};
-
-// A word of a record, 0 past its end.
-fn word(w: &[u64], i: usize) -> u64
-    ensures { λ r. ⌜ r ≡ getD (now (w .entry)) i 0 ⌝ }
-{
-    if i < w.len() {
-        return w[i];
-    }
-    0
-}
-
-fn put_kind(out: &mut [u8], at: usize, kind: u64) -> usize
-    ensures { λ r. ⌜ textAt (now (out .exit)) r ≡ texted (textAt (now (out .entry)) at) (kindName kind) ⌝ }
-{
-    match kind {
-        0 => put_bytes(out, at, b"accepted"),
-        1 => put_bytes(out, at, b"rejected"),
-        2 => put_bytes(out, at, b"canceled"),
-        3 => put_bytes(out, at, b"cancelrejected"),
-        4 => put_bytes(out, at, b"partial"),
-        _ => put_bytes(out, at, b"fill"),
-    }
-}
-
-// ts, seq, order, kind, cum
-fn put_report(out: &mut [u8], at: usize, name: &[u8], w: &[u64]) -> usize
-    ensures { λ r. ⌜ textAt (now (out .exit)) r ≡ texted (textAt (now (out .entry)) at) (reportLine (now (name .entry)) (now (w .entry))) ⌝ }
-{
-    let a = put_bytes(out, at, name);
-    let b = put_field(out, a, word(w, 1));
-    let c = put_field(out, b, word(w, 2));
-    let d = put_field(out, c, word(w, 3));
-    let e = put_byte(out, d, b' ');
-    let f = put_kind(out, e, word(w, 5));
-    let g = put_field(out, f, word(w, 11));
-    put_byte(out, g, b'\n')
-}
-
-// ts, exec, order, qty, price
-fn put_fill(out: &mut [u8], at: usize, w: &[u64]) -> usize
-    ensures { λ r. ⌜ textAt (now (out .exit)) r ≡ texted (textAt (now (out .entry)) at) (fillLine (now (w .entry))) ⌝ }
-{
-    let a = put_bytes(out, at, b"fill");
-    let b = put_field(out, a, word(w, 1));
-    let c = put_field(out, b, word(w, 2));
-    let d = put_field(out, c, word(w, 3));
-    let e = put_field(out, d, word(w, 6));
-    let f = put_field(out, e, word(w, 5));
-    put_byte(out, f, b'\n')
-}
-
-// An event of two words.
-fn put_short(out: &mut [u8], at: usize, name: &[u8], w: &[u64]) -> usize
-    ensures { λ r. ⌜ textAt (now (out .exit)) r ≡ texted (textAt (now (out .entry)) at) (shortLine (now (name .entry)) (now (w .entry))) ⌝ }
-{
-    let a = put_bytes(out, at, name);
-    let b = put_field(out, a, word(w, 1));
-    let c = put_field(out, b, word(w, 2));
-    put_byte(out, c, b'\n')
-}
-
-// An event of one word.
-fn put_one(out: &mut [u8], at: usize, name: &[u8], w: &[u64]) -> usize
-    ensures { λ r. ⌜ textAt (now (out .exit)) r ≡ texted (textAt (now (out .entry)) at) (oneLine (now (name .entry)) (now (w .entry))) ⌝ }
-{
-    let a = put_bytes(out, at, name);
-    let b = put_field(out, a, word(w, 1));
-    put_byte(out, b, b'\n')
-}
-
-// The line of a record of the log.
-pub fn put_event(out: &mut [u8], at: usize, w: &[u64]) -> usize
-    ensures { λ r. ⌜ textAt (now (out .exit)) r ≡ texted (textAt (now (out .entry)) at) (eventLine (now (w .entry))) ⌝ }
-{
-    let kind = word(w, 0);
-    match kind {
-        1 => put_report(out, at, b"report", w),
-        2 => put_fill(out, at, w),
-        3 => put_report(out, at, b"delivered", w),
-        4 => put_short(out, at, b"observed", w),
-        5 => put_short(out, at, b"rowend", w),
-        6 => put_short(out, at, b"eod", w),
-        7 => put_one(out, at, b"halt", w),
-        8 => put_short(out, at, b"dropped", w),
-        9 => put_short(out, at, b"expired", w),
-        10 => put_one(out, at, b"dropexp", w),
-        _ => at,
-    }
-}
+ghost use Rattle.lines.specs.Print.{callText, lastLine, badLine, filledQty, filledAfter};
 
 // How many records of the log a call has written.
 fn records(log: &[u64], events: u64) -> usize

@@ -4,3 +4,4 @@ pub mod Cases
 pub mod Sums
 pub mod Totals
 pub mod Examples
+pub mod Room

@@ -1,3 +1,4 @@
-pub mod MessagesExits
-pub mod ActivationExits
-pub mod CancelExits
+pub mod StepExits
+pub mod PlaceExits
+pub mod DeedExits
+pub mod ActExits

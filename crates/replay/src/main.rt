@@ -6,7 +6,7 @@ use day::turn;
 use libc::STDOUT_FILENO;
 use lines::put_bad;
 use numbers::MaybeU64;
-use runtext::read::read;
+use runtext::read;
 use state::KernelState;
 
 // The first n bytes. False where they cannot be written.

@@ -2,7 +2,7 @@
 use Prim.Native.Nat.{ℕ, _+_}
 use mathlib.Core.Path.{_≡_, refl, sym, ap, _∙_, subst}
 use mathlib.Core.Bool.{true, false}
-use mathlib.Core.List.{List, [], _∷_}
+use mathlib.Core.List.{List, [], _∷_, _++_, append-assoc}
 use mathlib.Core.Logic.{⊎-elim}
 use mathlib.Core.Option.{none, some}
 use native.Mathlib.Omega.{arith}
@@ -88,6 +88,24 @@ module _ (l : Log) (r : rules.Run) (k : KernelState → rules.Run) (a : Step) (w
   -- the same, for what the rest gives: laws of this form chain, each to the goal that the next one meets
   pub then-on : a .outcome ≡ Ran → {x : StepResult} → x ≡ expected (logAt w (a .raised)) (k (a .state)) → x ≡ expected l (rules.andThen r k)
   then-on h p = p ∙ sym (then-ran h)
+
+-- ---- what follows what follows
+then-inner : (es : List KernelEvent) (q : rules.Run) (k : rules.Run) (o : rules.Outcome) → q .outcome ≡ o
+    → rules.onRan (q .outcome) (rules.after es q) (rules.after (es ++ q .events) k) ≡ rules.after es (rules.onRan (q .outcome) q (rules.after (q .events) k))
+then-inner es q k rules.ran e = rw (e, append-assoc es (q .events) (k .events))
+then-inner es q k rules.left e = rw e
+then-inner es q k (rules.halt z) e = rw e
+then-inner es q k (rules.ended ms) e = rw e
+
+then-outer : (r : rules.Run) (f g : KernelState → rules.Run) (o : rules.Outcome) → r .outcome ≡ o → rules.andThen (rules.andThen r f) g ≡ rules.andThen r (λ u. rules.andThen (f u) g)
+unfolding rules.andThen
+then-outer r f g rules.ran e = rw e (then-inner (r .events) (f (r .state)) (g (f (r .state) .state)) (f (r .state) .outcome) refl)
+then-outer r f g rules.left e = rw e
+then-outer r f g (rules.halt z) e = rw e
+then-outer r f g (rules.ended ms) e = rw e
+
+pub then-then : (r : rules.Run) (f g : KernelState → rules.Run) → rules.andThen (rules.andThen r f) g ≡ rules.andThen r (λ u. rules.andThen (f u) g)
+then-then r f g = then-outer r f g (r .outcome) refl
 
 -- ---- an event, then k: m is the log with it
 pub raise-on : (l : Log) (e : KernelEvent) (s : KernelState) (k : KernelState → rules.Run) (m : Log) → m ≡ appendEvent l e → {x : StepResult} → x ≡ expected m (k s) → x ≡ expected l (rules.andThen (rules.raised e s) k)

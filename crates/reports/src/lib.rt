@@ -2,8 +2,12 @@
 pub mod log;
 pub mod report;
 
+use state::Clock;
+use state::Counters;
+use state::GateState;
 use state::HaltReason;
 use state::KernelState;
+use state::Seqs;
 
 // How a step went: to its end; left by an observation that paused or truncated; halted; or at the end of the data.
 pub enum Outcome {
@@ -18,4 +22,13 @@ pub struct Step {
     pub outcome: Outcome,
     pub state: KernelState,
     pub raised: u64,
+}
+
+// What the venue's steps change of the state beside the lists.
+pub struct Venue {
+    pub rng_latency: u64,
+    pub clock: Clock,
+    pub seqs: Seqs,
+    pub gate: GateState,
+    pub counters: Counters,
 }

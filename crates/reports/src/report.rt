@@ -1,6 +1,6 @@
 // Stamps, and a report with its delivery.
 use super::Outcome;
-use super::Step;
+use super::Venue;
 use super::log::emit;
 use book::Delivery;
 use book::ExecKind;
@@ -10,6 +10,7 @@ use book::ReportRec;
 use book::VenueOrder;
 use book::config::Config;
 use deliveries::Deliveries;
+use deliveries::MaybeDelivery;
 use models::latency::delayed;
 use numbers::MaybeU64;
 use numbers::words::checked_add;
@@ -17,17 +18,15 @@ use numbers::words::max;
 use state::Clock;
 use state::HaltReason;
 use state::KernelEvent;
-use state::KernelState;
 use state::Seqs;
 ghost use mathlib.Core.Path.{_≡_};
 ghost use mathlib.Core.List.{List};
 ghost use Prim.Native.Nat.{ℕ};
 ghost use Rattle.state.specs.declared.KernelState.{KernelState};
-ghost use Rattle.book.specs.declared.MaybeFill.the-variants.{None};
 ghost use Rattle.state.specs.With.{withSeqs};
 ghost use Rattle.rules.specs.Report.{stamp, reportAt, reported, queueDelivery};
 ghost use Rattle.reports.specs.Log.{logAt, expected, actual};
-ghost use Rattle.reports.specs.Report.{stampedIn, reportedIn, withReport, queuedIn, withQueue};
+ghost use Rattle.reports.specs.Report.{stampedIn, reportedIn, withReport, queuedIn, withQueue, withVenue, toldIn};
 
 // What a stamp changes.
 pub struct Stamped {
@@ -40,6 +39,14 @@ pub struct Reported {
     pub outcome: Outcome,
     pub rng_latency: u64,
     pub clock: Clock,
+    pub raised: u64,
+}
+
+// A report that was told, with its delivery where it is on its way.
+pub struct Told {
+    pub outcome: Outcome,
+    pub venue: Venue,
+    pub sent: MaybeDelivery,
     pub raised: u64,
 }
 
@@ -177,32 +184,50 @@ pub fn queue_delivery(
     }
 }
 
-// A report without a fill, from the whole state.
-pub fn send(log: &mut [u64], raised: u64, cfg: Config, report: ReportRec, s: KernelState) -> Step
-    ensures { λ r. ⌜ actual r (now (log .exit)) ≡ expected (logAt (now (log .entry)) raised) (queueDelivery cfg report None s) ⌝ }
+// A report: its event, and its delivery, which joins those that wait. `waiting` of them are before it.
+pub fn tell(
+    log: &mut [u64],
+    raised: u64,
+    cfg: Config,
+    report: ReportRec,
+    fill: MaybeFill,
+    venue: Venue,
+    waiting: usize,
+) -> Told
+    ensures { λ r. ⌜ ((s : KernelState) → waiting ≡ s .deliveries .count → actual (toldIn s r) (now (log .exit)) ≡ expected (logAt (now (log .entry)) raised) (queueDelivery cfg report fill (withVenue s venue))) ⌝ }
 {
-    let clock = s.clock;
-    let deliveries = s.deliveries;
-    let q = queue_delivery(
-        log,
-        raised,
-        cfg,
+    let clock = venue.clock;
+    let r = report_on(log, raised, cfg, report, venue.rng_latency, clock);
+    let next = r.clock;
+    let mut v = venue;
+    v.rng_latency = r.rng_latency;
+    v.clock = next;
+    let o = r.outcome;
+    let Outcome::Ran = o else {
+        return Told {
+            outcome: o,
+            venue: v,
+            sent: MaybeDelivery::None,
+            raised: r.raised,
+        };
+    };
+    if waiting >= deliveries::CAPACITY {
+        return Told {
+            outcome: Outcome::Halt(HaltReason::CounterOverflow),
+            venue: v,
+            sent: MaybeDelivery::None,
+            raised: r.raised,
+        };
+    }
+    let delivery = Delivery {
+        at_ns: next.last_delivery_ns,
         report,
-        MaybeFill::None,
-        s.rng_latency,
-        clock,
-        deliveries,
-    );
-    let c = q.clock;
-    let d = q.deliveries;
-    let o = q.outcome;
-    let mut t = s;
-    t.rng_latency = q.rng_latency;
-    t.clock = c;
-    t.deliveries = d;
-    Step {
-        outcome: o,
-        state: t,
-        raised: q.raised,
+        fill,
+    };
+    Told {
+        outcome: Outcome::Ran,
+        venue: v,
+        sent: MaybeDelivery::Some(delivery),
+        raised: r.raised,
     }
 }

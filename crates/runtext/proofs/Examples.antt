@@ -19,9 +19,10 @@ use Rattle.book.specs.declared.config.KernelTick.{KernelTick}
 use Rattle.rules.proofs.Sample.{config, start, rows}
 use Rattle.text.specs.Bytes.{bytes}
 use Rattle.text.specs.Fields.{parted, same, areDigits, value, number}
-use Rattle.runtext.specs.Lines.{sideOf, onSideField, configLine, nowLine, queueLine, fillModeLine, orderLine, cancelLine, rowLine, lineOf}
-use Rattle.runtext.specs.Read.{blankReading, takeConfig, takeFill, isMessageDue, reserved, onReserved, onPut, takeOrder, marked, markedIn, takeCancel, takeRow, takeLine, seeded, startState, scriptOf, readWith, closing, readParts, Read, readText}
-use Rattle.runtext.specs.declared.read.Reading.{Reading}
+use Rattle.runline.specs.Lines.{sideOf, onSideField, configLine, nowLine, queueLine, fillModeLine, orderLine, cancelLine, rowLine, lineOf}
+use Rattle.runtake.specs.Take.{takeConfig, takeFill, isMessageDue, reserved, onReserved, onPut, takeOrder, marked, markedIn, takeCancel, takeRow, takeLine}
+use Rattle.runtext.specs.Read.{blankReading, seeded, startState, scriptOf, readWith, closing, readParts, Read, readText}
+use Rattle.runtake.specs.declared.Reading.{Reading}
 
 -- with room for the words of 512 rows, as `replay` lends it
 abbrev pub read : String → Read

@@ -27,16 +27,17 @@ use Rattle.rules.specs.Conservation.{ofSide, lotsOn, carriedBy, carriedOn, Each
 use Rattle.rules.proofs.Cases.{word-case}
 use Rattle.rules.proofs.Conservation.{conservation}
 use Rattle.text.specs.Fields.{fields}
-use Rattle.runtext.specs.Lines.{onSideField, configLine, nowLine, queueLine, fillModeLine, orderLine, cancelLine, rowLine, lineOf}
-use Rattle.runtext.specs.Read.{blankReading, takeConfig, takeFill, reserved, onReserved, onPut, takeOrder, markedKind, marked, markedIn, takeCancel, LineTaken, takeRow, takeLine, startState, scriptOf, Read, closing, readParts, readText}
+use Rattle.runline.specs.Lines.{onSideField, configLine, nowLine, queueLine, fillModeLine, orderLine, cancelLine, rowLine, lineOf}
+use Rattle.runtake.specs.Take.{takeConfig, takeFill, reserved, onReserved, onPut, takeOrder, markedKind, marked, markedIn, takeCancel, LineTaken, takeRow, takeLine}
+use Rattle.runtext.specs.Read.{blankReading, startState, scriptOf, Read, closing, readParts, readText}
 use Rattle.runtext.specs.Start.{GoesOn, GoOn}
-use Rattle.runtext.specs.declared.line.Line.{Line}
-use Rattle.runtext.specs.declared.line.Line.the-variants as line
-use Rattle.runtext.specs.declared.line.MaybeSide.{MaybeSide}
-use Rattle.runtext.specs.declared.line.MaybeSide.the-variants as side
-use Rattle.runtext.specs.declared.read.Lots.{Lots}
-use Rattle.runtext.specs.declared.read.Reading.{Reading}
-use Rattle.runtext.specs.declared.read.Taken.{Taken}
+use Rattle.runline.specs.declared.Line.{Line}
+use Rattle.runline.specs.declared.Line.the-variants as line
+use Rattle.runline.specs.declared.MaybeSide.{MaybeSide}
+use Rattle.runline.specs.declared.MaybeSide.the-variants as side
+use Rattle.runtake.specs.declared.Lots.{Lots}
+use Rattle.runtake.specs.declared.Reading.{Reading}
+use Rattle.runtake.specs.declared.Taken.{Taken}
 
 -- ---- the order of a line has no lots filled
 Unfilled : Line → Type 0

@@ -1,4 +1,5 @@
 pub mod PartedLaws
+pub mod CursorLaws
 pub mod NumberLaws
 pub mod WriteLaws
 pub mod SignedLaws

@@ -87,23 +87,6 @@ module _ (b : ℕ) where
       cases true e = rw e (omega arith)
       cases false e = rw e (front (parted b l))
 
-  joined-length : (x : ℕ) (ps : List (List ℕ)) → 0 < length ps → length (joined x ps) ≡ length ps
-  joined-length x [] h = absurd (not-suc-le-zero h)
-  joined-length x (p ∷ ps) h = refl
-
-  -- how many there are from place i on
-  pub count-hit : (l : List ℕ) (i : ℕ) → i < length l → getD l i 0 ≡ b → length (parted b (drop i l)) ≡ suc (length (parted b (drop (i + 1) l)))
-  unfolding parted pick
-  count-hit l i h e = rw (add-one, drop-cons l i 0 h, eq-eqb (getD l i 0) b e)
-
-  pub count-miss : (l : List ℕ) (i : ℕ) → i < length l → (getD l i 0 ≡ b → ⊥) → length (parted b (drop i l)) ≡ length (parted b (drop (i + 1) l))
-  unfolding parted pick
-  count-miss l i h e = rw (add-one, drop-cons l i 0 h, ne-eqb (getD l i 0) b e) (joined-length (getD l i 0) (parted b (drop (suc i) l)) (parted-some (drop (suc i) l)))
-
-  pub count-end : (l : List ℕ) (i : ℕ) → length l ≤ i → length (parted b (drop i l)) ≡ 1
-  unfolding parted pick
-  count-end l i h = rw (drop-of-length-le l h)
-
 -- ---- the same bytes
 pub same-longer : (l m : List ℕ) → (length l ≡ length m → ⊥) → same l m ≡ false
 unfolding same pick
@@ -129,7 +112,7 @@ pub same-end : (l m : List ℕ) (i : ℕ) → length l ≤ i → length m ≤ i 
 unfolding same pick
 same-end l m i h k = rw (drop-of-length-le l h, drop-of-length-le m k)
 
--- ---- the field at a place
+-- ---- the part at a place
 module _ (b : ℕ) (l : List ℕ) (at e : ℕ) (is-end : e ≡ at + before (is b) (drop at l)) where
   first : before (is b) (drop at l) ≡ e - at
   first = omega arith
@@ -151,18 +134,3 @@ module _ (b : ℕ) (l : List ℕ) (at e : ℕ) (is-end : e ≡ at + before (is b
   -- it is the last
   pub part-last : at ≤ length l → length l ≤ e → parted b (drop at l) ≡ drop at l ∷ []
   part-last h k = parted-last b (drop at l) (omega (arith, length-drop at l))
-
-  -- place k from it on: it is past the last; it is one of those behind; it is here
-  pub field-none : (k : ℕ) → at ≤ length l → length l ≤ e → 0 < k → getD (parted b (drop at l)) k [] ≡ []
-  field-none zero h g p = absurd (not-suc-le-zero p)
-  field-none (suc k) h g p = rw (part-last h g)
-
-  pub field-next : (k : ℕ) → e < length l → 0 < k → getD (parted b (drop at l)) k [] ≡ getD (parted b (drop (e + 1) l)) (k - 1) []
-  field-next zero h p = absurd (not-suc-le-zero p)
-  field-next (suc k) h p =
-      let z : suc k - 1 ≡ k = omega arith in
-      rw (part-more h, z)
-
-  pub field-here : (k : ℕ) → k ≤ 0 → getD (parted b (drop at l)) k [] ≡ take (e - at) (drop at l)
-  field-here zero p = part-here
-  field-here (suc k) p = absurd (not-suc-le-zero p)

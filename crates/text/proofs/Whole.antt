@@ -11,7 +11,7 @@ use lib.Seq.{sets, sets-eq}
 use borrow.Author.Tests.{lt-ltb, ltb-true, ltb-false}
 use Rattle.numbers.specs.Choice.{pick}
 use Rattle.text.specs.Write.{textAt, put, texted, decimal}
-use Rattle.text.proofs.WriteLaws.{decimal-one, decimal-more}
+use Rattle.text.proofs.WriteLaws.{decimal-one, decimal-more, tens, word-tens}
 
 -- byte by byte
 texted-sets : (l bs : List ℕ) (n : ℕ) → n + length l ≤ length bs → texted (textAt bs n) l ≡ textAt (sets bs n l) (n + length l)
@@ -25,10 +25,6 @@ texted-sets (b ∷ l) bs n h =
 pub texted-whole : (l bs : List ℕ) (n : ℕ) → n + length l ≤ length bs → texted (textAt bs n) l ≡ textAt (take n bs ++ l ++ drop (n + length l) bs) (n + length l)
 texted-whole l bs n h = texted-sets l bs n h ∙ ap (λ (m : List ℕ). textAt m (n + length l)) (sets-eq l bs n h)
 
-tens : ℕ → ℕ
-tens zero = 1
-tens (suc k) = 10 * tens k
-
 -- a number below 10^k has at most k digits
 digits-most : (k n : ℕ) → n < tens (suc k) → length (decimal n) ≤ suc k
 unfolding tens
@@ -40,5 +36,4 @@ digits-most (suc k) n h = cases (ltb n 10) refl (digits-most k (n / 10) (omega a
     cases false e i = rw (decimal-more n (ltb-false n 10 e), length-append) (omega arith)
 
 pub word-most : (n : ℕ) → n < 18446744073709551616 → length (decimal n) ≤ 20
-unfolding tens
-word-most n h = digits-most 19 n (omega arith)
+word-most n h = digits-most 19 n (word-tens n h)

@@ -1,14 +1,14 @@
 -- Text written piece by piece is the text written whole; the digits of a number. Assumes nothing.
-use Prim.Native.Nat.{ℕ, zero, suc, _+_, _/_, _≤_, _<_}
-use mathlib.Core.Path.{_≡_, refl, sym, ap}
+use Prim.Native.Nat.{ℕ, zero, suc, _+_, _-_, _*_, _/_, _≤_, _<_}
+use mathlib.Core.Path.{_≡_, refl, sym, ap, _∙_}
 use mathlib.Core.Bool.{Bool, true, false}
-use mathlib.Core.List.{List, [], _∷_, _++_}
-use native.Mathlib.Nat.{not-suc-le-zero}
+use mathlib.Core.List.{List, [], _∷_, _++_, append-assoc}
+use native.Mathlib.Nat.{not-suc-le-zero, le-of-suc-le-suc}
 use native.Mathlib.Numerals.{add-one}
 use native.Mathlib.Omega.{arith}
 use lib.Dec.{ltb}
-use lib.ListN.{length, drop, getD, set, drop-of-length-le}
-use lib.Seq.{drop-cons}
+use lib.ListN.{length, take, drop, getD, set, drop-of-length-le, length-drop}
+use lib.Seq.{take-all, drop-cons}
 use borrow.Author.Tests.{lt-ltb, le-ltb, ltb-false}
 use Rattle.numbers.specs.Choice.{pick}
 use Rattle.text.specs.Write.{Text, textAt, put, texted, digit, digits, decimal}
@@ -62,9 +62,49 @@ pub decimal-more : (n : ℕ) → 10 ≤ n → decimal n ≡ decimal (n / 10) ++ 
 unfolding decimal digits pick
 decimal-more n h = rw (le-ltb n 10 h) (ap (λ (l : List ℕ). l ++ (digit n ∷ [])) (digits-fuel n (suc (n / 10)) (n / 10) (omega arith) (omega arith)))
 
--- a number of one digit, and of more: its last digit behind those before it
-pub number-one : (t u : Text) (n d : ℕ) → n < 10 → d ≡ digit n → u ≡ texted t (d ∷ []) → u ≡ texted t (decimal n)
-number-one t u n d h e f = rw (← decimal-one n h, ← e) f
+-- ---- the digits of a number, put into a row from its end on
+-- 10 to the power k
+unfoldable pub tens : ℕ → ℕ
+tens zero = 1
+tens (suc k) = 10 * tens k
 
-pub number-more : (t u v : Text) (n d : ℕ) → 10 ≤ n → d ≡ digit n → u ≡ texted t (decimal (n / 10)) → v ≡ texted u (d ∷ []) → v ≡ texted t (decimal n)
-number-more t u v n d h e f g = rw (decimal-more n h, texted-append, ← f, ← e) g
+-- at the last place there is one digit
+pub more-places : (i left : ℕ) → 10 ≤ left → left < tens (suc i) → 0 < i
+unfolding tens
+more-places zero left h k = omega arith
+more-places (suc i) left h k = omega arith
+
+pub word-tens : (n : ℕ) → n < 18446744073709551616 → n < tens 20
+unfolding tens
+word-tens n h = omega arith
+
+-- the place i is written: what stands behind it follows
+set-drop : (row : List ℕ) (i v : ℕ) → i < length row → drop i (set row i v) ≡ v ∷ drop (suc i) row
+set-drop [] i v h = absurd (not-suc-le-zero h)
+set-drop (x ∷ row) zero v h = refl
+set-drop (x ∷ row) (suc i) v h = set-drop row i v (le-of-suc-le-suc h)
+
+-- of n, the digits of `left` are still to be put, up to place i
+module _ (n left i : ℕ) (row : List ℕ) (e : decimal n ≡ decimal left ++ drop (suc i) row) (h : i < length row) where
+  pub digit-turn : 10 ≤ left → 0 < i → decimal n ≡ decimal (left / 10) ++ drop (suc (i - 1)) (set row i (digit left))
+  digit-turn k p =
+      let z : suc (i - 1) ≡ i = omega arith in
+      rw (z, set-drop row i (digit left) h) (e ∙ rw (decimal-more left k, append-assoc))
+
+  pub digit-last : left < 10 → (d : ℕ) → d ≡ digit left → drop i (set row i d) ≡ decimal n
+  digit-last k d f = rw (set-drop row i d h, e, ← decimal-one left k, f)
+
+fewer : (i left : ℕ) → left < tens (suc i) → left / 10 < tens i
+unfolding tens
+fewer i left h = omega arith
+
+pub fewer-tens : (i left : ℕ) → left < tens (suc i) → 0 < i → left / 10 < tens (suc (i - 1))
+fewer-tens i left h p =
+    let z : suc (i - 1) ≡ i = omega arith in
+    rw z (fewer i left h)
+
+-- they are all that stands there
+pub number-put : (t u : Text) (n first : ℕ) (row : List ℕ) → length row ≡ 20 → drop first row ≡ decimal n → u ≡ texted t (take (20 - first) (drop first row)) → u ≡ texted t (decimal n)
+number-put t u n first row h e f =
+    let z : length (drop first row) ≤ 20 - first = rw (length-drop, h) (omega arith) in
+    rw (take-all (20 - first) (drop first row) z, e) at f

@@ -1,3 +1,4 @@
 pub mod Bytes
 pub mod Fields
+pub mod Cursor
 pub mod Write

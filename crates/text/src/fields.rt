@@ -3,11 +3,18 @@ use numbers::MaybeU64;
 ghost use mathlib.Core.Path.{_≡_};
 ghost use mathlib.Core.List.{[]};
 ghost use Prim.Native.Nat.{_+_};
-ghost use lib.ListN.{length, drop, getD};
+ghost use lib.ListN.{drop, getD};
 ghost use Rattle.lists.specs.Lists.{before};
-ghost use Rattle.text.specs.Fields.{is, isDigit, same, fields, number};
+ghost use Rattle.text.specs.Cursor.{fieldsFrom};
+ghost use Rattle.text.specs.Fields.{is, isDigit, same, number};
 
 const SPACE: u8 = 32;
+
+// A number that was read, and the place of the field behind it.
+pub struct NumberFrom {
+    pub value: MaybeU64,
+    pub next: usize,
+}
 
 // The place of the first `stop` at or after `at`, or the end.
 pub fn piece_end(s: &[u8], at: usize, stop: u8) -> usize
@@ -23,37 +30,26 @@ pub fn piece_end(s: &[u8], at: usize, stop: u8) -> usize
     i
 }
 
-// How many fields a line has.
-pub fn field_count(l: &[u8]) -> usize
-    ensures { λ r. ⌜ r ≡ length (fields (now (l .entry))) ⌝ }
+// The first of the fields that a line has from place `at` on: nothing where none is left.
+pub fn field_from(l: &[u8], at: usize) -> &[u8]
+    ensures { λ r. ⌜ now r ≡ getD (fieldsFrom (now (l .entry)) at) 0 [] ⌝ }
 {
-    let mut n = 0;
-    let mut i = 0;
-    while i < l.len() {
-        if l[i] == SPACE {
-            n += 1;
-        }
-        i += 1;
-    }
-    n + 1
-}
-
-// The field at place k of a line: nothing where there is none.
-pub fn field_at(l: &[u8], k: usize) -> &[u8]
-    ensures { λ r. ⌜ now r ≡ getD (fields (now (l .entry))) k [] ⌝ }
-{
-    let mut at = 0;
-    let mut left = k;
-    while left > 0 {
-        let end = piece_end(l, at, SPACE);
-        if end >= l.len() {
-            return &l[..0];
-        }
-        at = end + 1;
-        left -= 1;
+    if at > l.len() {
+        return &l[..0];
     }
     let end = piece_end(l, at, SPACE);
     &l[at..end]
+}
+
+// The place of the field behind that one.
+pub fn next_from(l: &[u8], at: usize) -> usize
+    ensures { λ r. ⌜ fieldsFrom (now (l .entry)) r ≡ drop 1 (fieldsFrom (now (l .entry)) at) ⌝ }
+{
+    if at > l.len() {
+        return at;
+    }
+    let end = piece_end(l, at, SPACE);
+    end + 1
 }
 
 pub fn is_same(a: &[u8], b: &[u8]) -> bool
@@ -108,10 +104,21 @@ pub fn number(f: &[u8]) -> MaybeU64
     MaybeU64::Some(n)
 }
 
-// The number in the field at place k.
-pub fn number_at(l: &[u8], k: usize) -> MaybeU64
-    ensures { λ r. ⌜ r ≡ number (getD (fields (now (l .entry))) k []) ⌝ }
+// The number in the first of the fields from place `at` on, and the place of the field behind it, in one walk.
+pub fn number_from(l: &[u8], at: usize) -> NumberFrom
+    ensures { λ r. ⌜ r .value ≡ number (getD (fieldsFrom (now (l .entry)) at) 0 []) ⌝ }
+    ensures { λ r. ⌜ fieldsFrom (now (l .entry)) (r .next) ≡ drop 1 (fieldsFrom (now (l .entry)) at) ⌝ }
 {
-    let f = field_at(l, k);
-    number(f)
+    if at > l.len() {
+        return NumberFrom {
+            value: MaybeU64::None,
+            next: at,
+        };
+    }
+    let f = field_from(l, at);
+    let value = number(f);
+    NumberFrom {
+        value,
+        next: at + f.len() + 1,
+    }
 }

@@ -1,6 +1,8 @@
 // Text written into what the caller lends, from a place on: each writer answers the next place. A byte past the end is not written.
 ghost use mathlib.Core.Path.{_≡_};
 ghost use mathlib.Core.List.{[], _∷_};
+ghost use Prim.Native.Nat.{_≤_};
+ghost use lib.ListN.{length, drop};
 ghost use Rattle.text.specs.Write.{textAt, texted, decimal, signed};
 
 pub fn put_byte(out: &mut [u8], at: usize, b: u8) -> usize
@@ -25,16 +27,36 @@ pub fn put_bytes(out: &mut [u8], at: usize, s: &[u8]) -> usize
     to
 }
 
-// The decimal digits of a number, the first not 0 unless it is the only one.
+// The digits of a number at the end of a row, from place `first` on. 64 bits have at most 20.
+struct Digits {
+    row: [u8; 20],
+    first: usize,
+}
+
+// From the last digit on: the first is not 0 unless it is the only one.
+fn digits_of(n: u64) -> Digits
+    ensures { λ r. ⌜ (r .first ≤ 19) × (length (r .row) ≡ 20) × (drop (r .first) (r .row) ≡ decimal n) ⌝ }
+{
+    let mut row = [0; 20];
+    let mut first = 19;
+    let mut left = n;
+    while left > 9 {
+        row[first] = 48 + (left % 10) as u8;
+        left /= 10;
+        first -= 1;
+    }
+    row[first] = 48 + left as u8;
+    Digits { row, first }
+}
+
+// A number by its decimal digits.
 pub fn put_number(out: &mut [u8], at: usize, n: u64) -> usize
     ensures { λ r. ⌜ textAt (now (out .exit)) r ≡ texted (textAt (now (out .entry)) at) (decimal n) ⌝ }
 {
-    let digit = 48 + (n % 10) as u8;
-    if n < 10 {
-        return put_byte(out, at, digit);
-    }
-    let to = put_number(out, at, n / 10);
-    put_byte(out, to, digit)
+    let d = digits_of(n);
+    let row = d.row;
+    let first = d.first;
+    put_bytes(out, at, &row[first..])
 }
 
 // A field behind others: a space and the number.

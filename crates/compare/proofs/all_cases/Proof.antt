@@ -7,13 +7,12 @@ use Rattle.compare.proofs.all_cases.Tie as tie
 pub all-cases-spec : {M : Type 1} → statement M
 all-cases-spec =
     tie.close (tie.spec
-    (λ block₀ r₀ name₀ rows₀ calls₀ log₀ out₀ at₀ counter₀ block r name rows calls log out at counter. Unit {0})
-    (λ block₀ r₀ name₀ rows₀ calls₀ log₀ out₀ at₀ counter₀ block r name rows calls log out at counter. 18446744073709551615 - counter)
+    (λ r₀ log₀ out₀ counter₀ r log out counter. Unit {0})
+    (λ r₀ log₀ out₀ counter₀ r log out counter. 18446744073709551615 - counter)
     (λ c. search needs)
     (λ c κs. search needs)
     (λ c κs. search needs)
     (λ c κs. search needs)
-    (λ c. search needs)
     (λ c. search needs)
     (λ c. search needs)
     (λ c. search needs)

@@ -2,7 +2,7 @@
 use mathlib.Core.Path.{_∙_}
 use borrow.Author.Needs.{needs}
 use Rattle.lines.specs.Print.{badLine}
-use Rattle.lines.proofs.PrintLaws.{all-piece, all-none}
+use Rattle.logline.proofs.LineLaws.{all-piece, all-none}
 use Rattle.lines.proofs.put_bad.Statement.{statement}
 use Rattle.lines.proofs.put_bad.Tie as tie
 

@@ -2,7 +2,7 @@
 use mathlib.Core.Path.{_∙_}
 use borrow.Author.Needs.{needs}
 use Rattle.lines.specs.Print.{lastLine}
-use Rattle.lines.proofs.PrintLaws.{all-piece, all-none}
+use Rattle.logline.proofs.LineLaws.{all-piece, all-none}
 use mir.Facts.{toZ-ofZ}
 use Rattle.lines.proofs.put_last.Statement.{statement}
 use Rattle.lines.proofs.put_last.Tie as tie

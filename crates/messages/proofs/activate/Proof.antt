@@ -1,5 +1,5 @@
 -- `messages::activate` meets its contract. Assumes nothing.
-use Rattle.messages.proofs.ActivationExits.{activate-unstamped, activate-invalid, activate-valid}
+use Rattle.messages.proofs.DeedExits.{activate-unstamped, activate-invalid, activate-valid}
 use borrow.Author.Needs.{needs}
 use Rattle.messages.proofs.activate.Statement.{statement}
 use Rattle.messages.proofs.activate.Tie as tie
@@ -9,20 +9,17 @@ activate-spec =
     tie.close (tie.spec
     (λ c κs. search needs)
     (λ c. search needs)
-    (λ c. let b = c .before .before in let z = b .before .before .before in
-    activate-unstamped _ _ (z .args .cfg) (z .args .order) (z .args .expiry) (z .args .s) (b .stamp .result) (b .stamp .ensures) (c .match .keys2))
+    (λ c κs. search needs)
+    (λ c. let b1 = c .before in let b3 = b1 .before .before in let b6 = b3 .before .before .before in
+    λ s n. activate-unstamped _ _ (b6 .args .cfg) (b6 .args .order) (b6 .args .expiry) (b6 .args .v) (b3 .stamp .result) (b3 .stamp .ensures) (b1 .match .keys2) (c .only .result) (c .only .ensures) s)
     (λ c κs. search needs)
     (λ c κs. search needs)
     (λ c κs. search needs)
     (λ c. search needs)
-    (λ c. let b = c .before .before .before in let d = b .before .before in let e = d .before .before in let f = e .before .before .before in
-    let z = f .before .before .before in
-    activate-invalid _ _ (z .args .cfg) (z .args .order) (z .args .expiry) (z .args .s) (f .stamp .result) (f .stamp .ensures) (e .enum-told .given .1)
-    (d .before .is-valid .result) (d .before .is-valid .ensures) (b .in-state .result) (d .if1 .taken) (b .in-state .ensures) (c .before .before .reject .ensures))
+    (λ c. let b2 = c .before .before in let b4 = b2 .before .before in let b5 = b4 .before in let b6 = b5 .before in let b7 = b6 .before in let b10 = b7 .before .before .before in let b13 = b10 .before .before .before in
+    λ s n. activate-invalid _ _ (b13 .args .cfg) (b13 .args .order) (b13 .args .expiry) (b13 .args .v) (b10 .stamp .result) (b10 .stamp .ensures) (b7 .enum-told .given .1) (b6 .is-valid .result) (b6 .is-valid .ensures) _ s (b5 .if1 .taken) (b4 .in-state .ensures) (b2 .reject .ensures s n))
     (λ c κs. search needs)
     (λ c κs. search needs)
     (λ c. search needs)
-    (λ c. let b = c .before .before .before in let d = b .before .before in let e = d .before .before in let f = e .before .before .before in
-    let z = f .before .before .before in
-    activate-valid _ _ (z .args .cfg) (z .args .order) (z .args .expiry) (z .args .s) (f .stamp .result) (f .stamp .ensures) (e .enum-told .given .1)
-    (d .before .is-valid .result) (d .before .is-valid .ensures) (b .in-state2 .result) (d .if1 .left) (b .in-state2 .ensures) (c .before .before .accept .ensures)))
+    (λ c. let b2 = c .before .before in let b4 = b2 .before .before in let b5 = b4 .before in let b6 = b5 .before in let b7 = b6 .before in let b10 = b7 .before .before .before in let b13 = b10 .before .before .before in
+    λ s n. activate-valid _ _ (b13 .args .cfg) (b13 .args .order) (b13 .args .expiry) (b13 .args .v) (b10 .stamp .result) (b10 .stamp .ensures) (b7 .enum-told .given .1) (b6 .is-valid .result) (b6 .is-valid .ensures) _ s (b5 .if1 .left) (b4 .in-state2 .ensures) (b2 .accept .ensures s n)))

@@ -1,5 +1,7 @@
 -- `messages::await_marked` meets its contract. Assumes nothing.
-use Rattle.messages.proofs.MessagesExits.{await-unmarked, await-in, await-full}
+use mathlib.Core.Path.{refl}
+use native.Mathlib.Omega.{arith}
+use Rattle.messages.proofs.StepExits.{follow-stop, await-unmarked, await-full, await-in}
 use borrow.Author.Needs.{needs}
 use Rattle.messages.proofs.await_marked.Statement.{statement}
 use Rattle.messages.proofs.await_marked.Tie as tie
@@ -7,7 +9,13 @@ use Rattle.messages.proofs.await_marked.Tie as tie
 pub await-marked-spec : {M : Type 1} → statement M
 await-marked-spec =
     tie.close (tie.spec
-    (λ c. let a = c .before .before .args in await-unmarked _ (a .order) (a .s) (c .if1 .taken))
+    (λ c. search needs)
+    (λ c. let b1 = c .before in
+    λ s l a w n e. follow-stop l a w s (b1 .args .told) e _ (c .match .keys2))
+    (λ c. let b2 = c .before .before in let b4 = b2 .before .before in
+    λ s l a w n e. await-unmarked l a w s (b4 .args .told) e (b2 .enum-told .given .1) _ refl (b4 .args .order) (c .if1 .taken))
     (λ c κs. search needs)
-    (λ c. let a = c .before .before .before .before .before .before .args in await-full _ (a .order) (a .s) (c .before .before .before .before .if1 .left) (c .before .before .insert-by-id .result) (c .before .before .insert-by-id .ensures) (c .if2 .taken))
-    (λ c. let a = c .before .before .before .before .before .before .before .args in await-in _ (a .order) (a .s) (c .before .before .before .before .before .if1 .left) (c .before .before .before .insert-by-id .result) (c .before .before .before .insert-by-id .ensures) (c .before .if2 .left)))
+    (λ c. let b2 = c .before .before in let b4 = b2 .before .before in let b6 = b4 .before .before in
+    λ s l a w n e. await-full l a w s (b6 .args .told) e (b4 .enum-told .given .1) (c .then-full .result) (c .then-full .ensures) (b6 .args .order) (b2 .if1 .left) (omega (arith, n)))
+    (λ c. let b1 = c .before in let b3 = b1 .before .before in let b5 = b3 .before .before in
+    λ s l a w n e. await-in l a w s (b5 .args .told) e (b3 .enum-told .given .1) _ refl (b5 .args .order) (b1 .if1 .left) (omega (arith, n))))

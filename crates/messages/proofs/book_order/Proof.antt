@@ -1,5 +1,7 @@
 -- `messages::book_order` meets its contract. Assumes nothing.
-use Rattle.messages.proofs.MessagesExits.{book-in, book-full}
+use mathlib.Core.Path.{refl}
+use native.Mathlib.Omega.{arith}
+use Rattle.messages.proofs.StepExits.{follow-stop, book-full, book-in}
 use borrow.Author.Needs.{needs}
 use Rattle.messages.proofs.book_order.Statement.{statement}
 use Rattle.messages.proofs.book_order.Tie as tie
@@ -7,6 +9,11 @@ use Rattle.messages.proofs.book_order.Tie as tie
 pub book-order-spec : {M : Type 1} → statement M
 book-order-spec =
     tie.close (tie.spec
+    (λ c. search needs)
+    (λ c. let b1 = c .before in
+    λ s l a w n e. follow-stop l a w s (b1 .args .told) e _ (c .match .keys2))
     (λ c κs. search needs)
-    (λ c. let a = c .before .before .before .before .args in book-full _ (a .order) (a .s) (c .before .before .push .result) (c .before .before .push .ensures) (c .if1 .taken))
-    (λ c. let a = c .before .before .before .before .before .args in book-in _ (a .order) (a .s) (c .before .before .before .push .result) (c .before .before .before .push .ensures) (c .before .if1 .left)))
+    (λ c. let b2 = c .before .before in let b4 = b2 .before .before in
+    λ s l a w n e. book-full l a w s (b4 .args .told) e (b2 .enum-told .given .1) (c .then-full .result) (c .then-full .ensures) (b4 .args .order) (omega (arith, n)))
+    (λ c. let b1 = c .before in let b3 = b1 .before .before in
+    λ s l a w n e. book-in l a w s (b3 .args .told) e (b1 .enum-told .given .1) _ refl (b3 .args .order) (omega (arith, n))))

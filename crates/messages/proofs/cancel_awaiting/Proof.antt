@@ -1,5 +1,5 @@
 -- `messages::cancel_awaiting` meets its contract. Assumes nothing.
-use Rattle.messages.proofs.CancelExits.{awaiting-none, awaiting-reported}
+use Rattle.messages.proofs.DeedExits.{late-told}
 use borrow.Author.Needs.{needs}
 use Rattle.messages.proofs.cancel_awaiting.Statement.{statement}
 use Rattle.messages.proofs.cancel_awaiting.Tie as tie
@@ -9,10 +9,5 @@ cancel-awaiting-spec =
     tie.close (tie.spec
     (λ c κs. search needs)
     (λ c. search needs)
-    (λ c. search needs)
-    (λ c. let a = c .before .before .before .before .before .args in awaiting-none _ _ _ _ (a .cfg) (a .s) (c .before .before .remove .result) (c .before .before .remove .ensures) (c .enum-told .given .1))
-    (λ c κs. search needs)
-    (λ c κs. search needs)
-    (λ c. search needs)
-    (λ c. let b = c .before .before .before .before in let d = b .before .before .before in let e = d .before .before in let a = e .before .before .before .args in
-    awaiting-reported _ _ _ _ (a .cfg) (a .s) (e .remove .result) (e .remove .ensures) _ (d .got .given .1) _ (b .status-report .ensures) (c .before .before .send .ensures)))
+    (λ c. let b2 = c .before .before in let b5 = b2 .before .before .before in
+    late-told _ _ _ _ _ (b5 .args .cfg) (b5 .args .order) (b5 .args .v) (b5 .args .counts) (b2 .report .result) (b2 .report .ensures)))

@@ -1,5 +1,6 @@
 -- `messages::cancel_booked` meets its contract. Assumes nothing.
-use Rattle.messages.proofs.CancelExits.{booked-none, booked-unreleased, booked-canceled}
+use Rattle.state.specs.With.{withMsgs}
+use Rattle.messages.proofs.DeedExits.{cancel-halt, canceled}
 use borrow.Author.Needs.{needs}
 use Rattle.messages.proofs.cancel_booked.Statement.{statement}
 use Rattle.messages.proofs.cancel_booked.Tie as tie
@@ -10,17 +11,11 @@ cancel-booked-spec =
     (λ c κs. search needs)
     (λ c. search needs)
     (λ c. search needs)
-    (λ c. let a = c .before .before .before .before .before .args in booked-none _ _ _ _ (a .cfg) (a .s) (c .before .before .remove .result) (c .before .before .remove .ensures) (c .enum-told .given .1))
     (λ c κs. search needs)
-    (λ c. search needs)
-    (λ c. let b = c .before .before .before .before in let d = b .before .before in let a = d .before .before .before .args in
-    booked-unreleased _ _ _ _ (a .cfg) (a .s) (d .remove .result) (d .remove .ensures) _ (b .got .given .1) (c .before .release-order .result)
-    (c .before .release-order .ensures) (c .match2 .keys2))
-    (λ c κs. search needs)
+    (λ c. let b1 = c .before in let b3 = b1 .before .before in let b6 = b3 .before .before .before in
+    λ s n q. cancel-halt _ _ _ _ (b6 .args .cfg) (b6 .args .order) (b6 .args .v) (b3 .release .result) (b3 .release .ensures) (b1 .enum-told .given .1) (c .halted .result) (c .halted .ensures) (withMsgs s (b6 .args .msgs)) q)
     (λ c κs. search needs)
     (λ c κs. search needs)
     (λ c. search needs)
-    (λ c. let b = c .before .before .before .before in let d = b .before in let e = d .before .before .before in let f = e .before .before in
-    let g = f .before .before .before in let h = g .before .before in let a = h .before .before .before .args in
-    booked-canceled _ _ _ _ (a .cfg) (a .s) (h .remove .result) (h .remove .ensures) _ (g .got .given .1) (f .release-order .result) (f .release-order .ensures)
-    (e .enum-told2 .given .1) (d .remove-expiry .result) (d .remove-expiry .ensures) _ (b .status-report .ensures) (c .before .before .send .ensures)))
+    (λ c. let b2 = c .before .before in let b4 = b2 .before .before in let b6 = b4 .before .before in let b8 = b6 .before .before in let b11 = b8 .before .before .before in
+    canceled _ _ _ _ (b11 .args .cfg) (b11 .args .order) (b11 .args .v) (b8 .release .result) (b8 .release .ensures) _ (b6 .r .given .1) _ (b11 .args .counts) (b11 .args .msgs) (b4 .expiry-edit .result) (b4 .expiry-edit .ensures) (b2 .report .result) (b2 .report .ensures)))

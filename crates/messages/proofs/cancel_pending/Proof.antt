@@ -1,5 +1,5 @@
 -- `messages::cancel_pending` meets its contract. Assumes nothing.
-use Rattle.messages.proofs.CancelExits.{pending-none, pending-other, pending-unreleased, pending-canceled}
+use Rattle.messages.proofs.DeedExits.{pending-halt, pending-canceled}
 use borrow.Author.Needs.{needs}
 use Rattle.messages.proofs.cancel_pending.Statement.{statement}
 use Rattle.messages.proofs.cancel_pending.Tie as tie
@@ -10,18 +10,10 @@ cancel-pending-spec =
     (λ c κs. search needs)
     (λ c. search needs)
     (λ c. search needs)
-    (λ c. let a = c .before .before .before .before .before .args in pending-none _ _ _ _ (a .cfg) (a .s) (c .before .before .remove .result) (c .before .before .remove .ensures) (c .enum-told .given .1))
-    (λ c. search needs)
-    (λ c. let a = c .before .before .before .before .before .before .before .before .args in pending-other _ _ _ _ (a .cfg) (a .s) (c .before .before .before .before .before .remove .result) (c .before .before .before .before .before .remove .ensures) _ (c .before .before .before .got .given .1) (c .match2 .keys2))
+    (λ c κs. search needs)
+    (λ c. let b1 = c .before in let b3 = b1 .before .before in let b6 = b3 .before .before .before in
+    λ s m life n q k. pending-halt _ _ _ _ (b6 .args .cfg) (b6 .args .order) (b6 .args .v) (b3 .release .result) (b3 .release .ensures) (b1 .enum-told .given .1) (c .halted .result) (c .halted .ensures) s m life q k)
     (λ c κs. search needs)
     (λ c. search needs)
-    (λ c. let b = c .before .before .before in let d = b .before .before .before .before in let e = d .before .before in let a = e .before .before .before .args in
-    pending-unreleased _ _ _ _ (a .cfg) (a .s) (e .remove .result) (e .remove .ensures) _ (d .got .given .1) _ _ (b .kind .given .1) (c .before .release-order .result)
-    (c .before .release-order .ensures) (c .match3 .keys2))
-    (λ c κs. search needs)
-    (λ c κs. search needs)
-    (λ c. search needs)
-    (λ c. let b = c .before .before .before .before in let d = b .before in let e = d .before .before in let f = e .before .before in
-    let g = f .before .before .before .before in let h = g .before .before in let a = h .before .before .before .args in
-    pending-canceled _ _ _ _ (a .cfg) (a .s) (h .remove .result) (h .remove .ensures) _ (g .got .given .1) _ _ (f .kind .given .1) (e .release-order .result)
-    (e .release-order .ensures) (d .enum-told2 .given .1) _ (b .status-report .ensures) (c .before .before .send .ensures)))
+    (λ c. let b2 = c .before .before in let b5 = b2 .before .before .before in let b7 = b5 .before .before in let b10 = b7 .before .before .before in
+    pending-canceled _ _ _ _ (b10 .args .cfg) (b10 .args .order) (b10 .args .v) (b7 .release .result) (b7 .release .ensures) _ (b5 .r .given .1) _ (b10 .args .counts) (b2 .report .result) (b2 .report .ensures)))

@@ -1,5 +1,5 @@
 -- `messages::expire_booked` meets its contract. Assumes nothing.
-use Rattle.messages.proofs.CancelExits.{expire-none, expire-unreleased, expire-unsent, expire-sent}
+use Rattle.messages.proofs.DeedExits.{expire-halt, expired}
 use borrow.Author.Needs.{needs}
 use Rattle.messages.proofs.expire_booked.Statement.{statement}
 use Rattle.messages.proofs.expire_booked.Tie as tie
@@ -10,26 +10,13 @@ expire-booked-spec =
     (λ c κs. search needs)
     (λ c. search needs)
     (λ c. search needs)
-    (λ c. let a = c .before .before .before .before .before .args in expire-none _ _ _ _ (a .cfg) (a .s) (c .before .before .remove .result) (c .before .before .remove .ensures) (c .enum-told .given .1))
     (λ c κs. search needs)
-    (λ c. search needs)
-    (λ c. let b = c .before .before .before .before in let d = b .before .before in let a = d .before .before .before .args in
-    expire-unreleased _ _ _ _ (a .cfg) (a .s) (d .remove .result) (d .remove .ensures) _ (b .got .given .1) (c .before .release-order .result)
-    (c .before .release-order .ensures) (c .match2 .keys2))
+    (λ c. let b1 = c .before in let b3 = b1 .before .before in let b6 = b3 .before .before .before in
+    λ s n q. expire-halt _ _ _ _ (b6 .args .cfg) (b6 .args .order) (b6 .args .v) (b3 .release .result) (b3 .release .ensures) (b1 .enum-told .given .1) (c .halted .result) (c .halted .ensures) s q)
     (λ c κs. search needs)
     (λ c κs. search needs)
-    (λ c κs. search needs)
-    (λ c. search needs)
-    (λ c. search needs)
-    (λ c. let b = c .before .before .before in let d = b .before .before in let e = d .before .before .before in let f = e .before .before .before in
-    let g = f .before .before in let h = g .before .before .before in let i = h .before .before in let a = i .before .before .before .args in
-    expire-unsent _ _ _ _ (a .cfg) (a .s) (i .remove .result) (i .remove .ensures) _ (h .got .given .1) (g .release-order .result) (g .release-order .ensures)
-    (f .enum-told2 .given .1) _ _ _ (e .emit .ensures) _ (d .status-report .ensures) (b .send .result) (b .send .ensures) (c .match3 .keys2))
     (λ c κs. search needs)
     (λ c κs. search needs)
     (λ c. search needs)
-    (λ c. let b = c .before .before .before .before .before .before in let d = b .before .before in let e = d .before .before .before in
-    let f = e .before .before .before in let g = f .before .before in let h = g .before .before .before in let i = h .before .before in let a = i .before .before .before .args in
-    expire-sent _ _ _ _ (a .cfg) (a .s) (i .remove .result) (i .remove .ensures) _ (h .got .given .1) (g .release-order .result) (g .release-order .ensures)
-    (f .enum-told2 .given .1) _ _ _ (e .emit .ensures) _ (d .status-report .ensures) (b .send .result) (b .send .ensures) (c .before .before .enum-told3 .given .1)
-    _ (c .before .in-state .ensures) (c .await-marked .result) (c .await-marked .ensures)))
+    (λ c. let b1 = c .before in let b2 = b1 .before in let b5 = b2 .before .before .before in let b9 = b5 .before .before .before .before in let b12 = b9 .before .before .before in let b14 = b12 .before .before in let b17 = b14 .before .before .before in
+    expired _ _ _ _ (b17 .args .cfg) (b17 .args .order) (b17 .args .v) (b14 .release .result) (b14 .release .ensures) _ (b12 .r .given .1) _ (b17 .args .counts) _ _ (b9 .emit .ensures) (b5 .report .result) (b5 .report .ensures) _ (b2 .in-state .ensures) (b1 .await-marked .result) (b1 .await-marked .ensures)))

@@ -1,5 +1,5 @@
 -- `messages::reject` meets its contract. Assumes nothing.
-use Rattle.messages.proofs.ActivationExits.{reject-unreleased, reject-unsent, reject-sent}
+use Rattle.messages.proofs.DeedExits.{reject-halt, rejected}
 use borrow.Author.Needs.{needs}
 use Rattle.messages.proofs.reject.Statement.{statement}
 use Rattle.messages.proofs.reject.Tie as tie
@@ -9,16 +9,11 @@ reject-spec =
     tie.close (tie.spec
     (λ c κs. search needs)
     (λ c. search needs)
-    (λ c. reject-unreleased _ _ _ _ _ _ (c .before .release-order .result) (c .before .release-order .ensures) (c .match .keys2))
+    (λ c. search needs)
+    (λ c κs. search needs)
+    (λ c κs. search needs)
+    (λ c. let b1 = c .before in let b2 = b1 .before in let b4 = b2 .before .before in let b7 = b4 .before .before .before in λ s n. reject-halt _ _ _ (b7 .args .cfg) (b7 .args .order) (b7 .args .v) (b4 .release .result) (b4 .release .ensures) (b2 .enum-told .given .1) (c .only .result) (b1 .halted .result) (c .only .ensures) (b1 .halted .ensures) s)
     (λ c κs. search needs)
     (λ c κs. search needs)
     (λ c. search needs)
-    (λ c. search needs)
-    (λ c. let b = c .before .before .before in let d = b .before .before in let e = d .before in let f = e .before .before in
-    reject-unsent _ _ _ _ _ _ (f .release-order .result) (f .release-order .ensures) (e .enum-told .given .1) _ _ (d .status-report .ensures) (b .send .result)
-    (b .send .ensures) (c .match2 .keys2))
-    (λ c κs. search needs)
-    (λ c. search needs)
-    (λ c. let b = c .before .before .before .before .before in let d = b .before .before in let e = d .before in let f = e .before .before in
-    reject-sent _ _ _ _ _ _ (f .release-order .result) (f .release-order .ensures) (e .enum-told .given .1) _ _ (d .status-report .ensures) (b .send .result)
-    (b .send .ensures) (c .before .enum-told2 .given .1) (c .await-marked .result) (c .await-marked .ensures)))
+    (λ c. let b1 = c .before in let b4 = b1 .before .before .before in let b7 = b4 .before .before .before in let b9 = b7 .before .before in let b12 = b9 .before .before .before in rejected _ _ _ (b12 .args .cfg) (b12 .args .order) (b12 .args .v) (b9 .release .result) (b9 .release .ensures) _ (b7 .freed .given .1) (b12 .args .counts) _ (b4 .report .result) (b4 .report .ensures) (b1 .await-marked .result) (b1 .await-marked .ensures)))

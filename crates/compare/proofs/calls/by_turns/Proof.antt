@@ -7,8 +7,8 @@ use Rattle.compare.proofs.calls.by_turns.Tie as tie
 pub by-turns-spec : {M : Type 1} → statement M
 by-turns-spec =
     tie.close (tie.spec
-    (λ g rows log₀ t₀ counter₀ log t counter. Unit {0})
-    (λ g rows log₀ t₀ counter₀ log t counter. 18446744073709551615 - counter)
+    (λ g r log₀ t₀ counter₀ log t counter. Unit {0})
+    (λ g r log₀ t₀ counter₀ log t counter. 18446744073709551615 - counter)
     (λ c. search needs)
     (λ c κs. search needs)
     (λ c. search needs)

@@ -7,12 +7,11 @@ use Rattle.compare.proofs.calls.put_events.Tie as tie
 pub put-events-spec : {M : Type 1} → statement M
 put-events-spec =
     tie.close (tie.spec
-    (λ out₀ at₀ log events i₀ i-end out at i. Unit {0})
-    (λ out₀ at₀ log events i₀ i-end out at i. i-end - i)
+    (λ out₀ log events i₀ t5 out i. Unit {0})
+    (λ out₀ log events i₀ t5 out i. 18446744073709551615 - i)
     (λ c. search needs)
     (λ c. search needs)
-    (λ c. search needs)
-    (λ c. search needs)
+    (λ c κs. search needs)
     (λ c κs. search needs)
     (λ c. search needs)
     (λ c. search needs)

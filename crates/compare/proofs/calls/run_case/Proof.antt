@@ -7,17 +7,19 @@ use Rattle.compare.proofs.calls.run_case.Tie as tie
 pub run-case-spec : {M : Type 1} → statement M
 run-case-spec =
     tie.close (tie.spec
-    (λ name rows calls log₀ out₀ at₀ g state₀ i₀ t11 i-end log out at state i. Unit {0})
-    (λ name rows calls log₀ out₀ at₀ g state₀ i₀ t11 i-end log out at state i. i-end - i)
+    (λ out₀ r log₀ g state₀ i₀ t8 i-end out log state i. Unit {0})
+    (λ out₀ r log₀ g state₀ i₀ t8 i-end out log state i. i-end - i)
     (λ c κs. search needs)
     (λ c κs. search needs)
     (λ c. search needs)
     (λ c. search needs)
     (λ c. search needs)
+    (λ c. search needs)
     (λ c κs. search needs)
     (λ c. search needs)
     (λ c. search needs)
     (λ c. search needs)
     (λ c. search needs)
+    (λ c κs. search needs)
     (λ c κs. search needs)
     (λ c. search needs))

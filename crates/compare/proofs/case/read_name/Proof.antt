@@ -7,8 +7,8 @@ use Rattle.compare.proofs.case.read_name.Tie as tie
 pub read-name-spec : {M : Type 1} → statement M
 read-name-spec =
     tie.close (tie.spec
-    (λ block₀ r₀ name₀ i₀ block r name i. Unit {0})
-    (λ block₀ r₀ name₀ i₀ block r name i. 18446744073709551615 - i)
+    (λ r₀ i₀ r i. Unit {0})
+    (λ r₀ i₀ r i. 18446744073709551615 - i)
     (λ c. search needs)
     (λ c κs. search needs)
     (λ c. search needs)
@@ -18,6 +18,8 @@ read-name-spec =
     (λ c. search needs)
     (λ c κs. search needs)
     (λ c κs. search needs)
+    (λ c. search needs)
+    (λ c. search needs)
     (λ c. search needs)
     (λ c. search needs)
     (λ c. search needs)

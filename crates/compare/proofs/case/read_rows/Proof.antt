@@ -7,11 +7,8 @@ use Rattle.compare.proofs.case.read_rows.Tie as tie
 pub read-rows-spec : {M : Type 1} → statement M
 read-rows-spec =
     tie.close (tie.spec
-    (λ block₀ r₀ rows₀ words i₀ block r rows i. Unit {0})
-    (λ block₀ r₀ rows₀ words i₀ block r rows i. 18446744073709551615 - i)
-    (λ c. search needs)
-    (λ c κs. search needs)
-    (λ c κs. search needs)
+    (λ r₀ words i₀ r i. Unit {0})
+    (λ r₀ words i₀ r i. 18446744073709551615 - i)
     (λ c. search needs)
     (λ c κs. search needs)
     (λ c. search needs)

@@ -7,17 +7,15 @@ use Rattle.compare.proofs.entries.put_orders.Tie as tie
 pub put-orders-spec : {M : Type 1} → statement M
 put-orders-spec =
     tie.close (tie.spec
-    (λ out₀ at₀ name list i₀ t8 i-end out at i. Unit {0})
-    (λ out₀ at₀ name list i₀ t8 i-end out at i. i-end - i)
+    (λ out₀ name list i₀ i-end out i. Unit {0})
+    (λ out₀ name list i₀ i-end out i. i-end - i)
+    (λ c κs. search needs)
     (λ c κs. search needs)
     (λ c κs. search needs)
     (λ c κs. search needs)
     (λ c. search needs)
     (λ c. search needs)
     (λ c. search needs)
-    (λ c. search needs)
-    (λ c κs. search needs)
-    (λ c κs. search needs)
     (λ c κs. search needs)
     (λ c. search needs)
     (λ c. search needs)

@@ -7,16 +7,14 @@ use Rattle.compare.proofs.entries.read_orders.Tie as tie
 pub read-orders-spec : {M : Type 1} → statement M
 read-orders-spec =
     tie.close (tie.spec
-    (λ block₀ r₀ name count list₀ i₀ t8 i-end block r list i. Unit {0})
-    (λ block₀ r₀ name count list₀ i₀ t8 i-end block r list i. i-end - i)
-    (λ c κs. search needs)
-    (λ c κs. search needs)
+    (λ r₀ name list₀ i₀ i-end r list i. Unit {0})
+    (λ r₀ name list₀ i₀ i-end r list i. i-end - i)
     (λ c κs. search needs)
     (λ c κs. search needs)
     (λ c. search needs)
+    (λ c κs. search needs)
+    (λ c κs. search needs)
     (λ c. search needs)
-    (λ c κs. search needs)
-    (λ c κs. search needs)
     (λ c κs. search needs)
     (λ c. search needs)
     (λ c. search needs)

@@ -7,11 +7,12 @@ use Rattle.compare.proofs.input.decimal.Tie as tie
 pub decimal-spec : {M : Type 1} → statement M
 decimal-spec =
     tie.close (tie.spec
-    (λ block₀ r₀ value₀ counter₀ block r value counter. Unit {0})
-    (λ block₀ r₀ value₀ counter₀ block r value counter. 18446744073709551615 - counter)
+    (λ r₀ value₀ counter₀ r value counter. Unit {0})
+    (λ r₀ value₀ counter₀ r value counter. 18446744073709551615 - counter)
     (λ c κs. search needs)
     (λ c. search needs)
     (λ c κs. search needs)
+    (λ c. search needs)
     (λ c κs. search needs)
     (λ c κs. search needs)
     (λ c. search needs)

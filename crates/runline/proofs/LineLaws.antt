@@ -1,5 +1,5 @@
 -- Each kind of line by the numbers that were read of it, from the field behind its first. Assumes nothing.
-use Prim.Native.Nat.{ℕ, suc, _+_, _≤_, _<_}
+use Prim.Native.Nat.{ℕ, suc, _<_}
 use mathlib.Core.Path.{_≡_, refl, sym, ap, _∙_}
 use mathlib.Core.Bool.{Bool, true, false}
 use mathlib.Core.List.{List, [], _∷_}
@@ -9,22 +9,21 @@ use lib.ListN.{length, getD, drop, replicate}
 use lib.Seq.{drop-drop, getD-drop}
 use borrow.Author.Tests.{ne-eqb}
 use Rattle.numbers.specs.Choice.{pick}
-use Rattle.numbers.specs.Words.{onWord}
 use Rattle.book.specs.declared.OrderState.the-variants.{Submitted}
 use Rattle.book.specs.declared.Side.{Side}
 use Rattle.book.specs.declared.config.FillMode.the-variants.{Immediate, QueuePosition}
 use Rattle.text.specs.Bytes.{bytes}
 use Rattle.text.specs.Cursor.{fieldsFrom}
 use Rattle.text.specs.Fields.{fields, same}
-use Rattle.text.proofs.CursorLaws.{left-none, left-some, left-parts, left-next}
-use Rattle.text.proofs.PartedLaws.{parted-some, same-longer}
+use Rattle.text.proofs.CursorLaws.{left-parts, left-next}
+use Rattle.text.proofs.PartedLaws.{same-longer}
 use Rattle.runline.specs.Lines.{sideOf, onSideField, configLine, nowLine, queueLine, fillModeLine, orderLine, cancelLine, rowLine, lineOf}
 use Rattle.runline.specs.Numbers.{Front, numbersIn, onlyNumbers}
 use Rattle.runline.specs.declared.Line.{Line}
 use Rattle.runline.specs.declared.Line.the-variants.{Bad, Config, Fill, Order, Cancel, Row}
 use Rattle.runline.specs.declared.MaybeSide.{MaybeSide}
 use Rattle.runline.specs.declared.MaybeSide.the-variants as side
-use Rattle.runline.proofs.NumbersLaws.{either-bad, reads, reads-front, Ended, ended, only-line}
+use Rattle.runline.proofs.NumbersLaws.{either-bad, reads, reads-front, ended, only-line}
 
 -- ---- numbers alone
 abbrev configOf : List ℕ → Line

@@ -1,7 +1,5 @@
 -- `logline::put_from` meets its contract. Assumes nothing.
-use mathlib.Core.Path.{_∙_}
 use borrow.Author.Needs.{needs}
-use native.Mathlib.Omega.{arith}
 use Rattle.text.proofs.PartedLaws.{end-most}
 use Rattle.logline.proofs.LineLaws.{no-word, word-here}
 use Rattle.logline.proofs.put_from.Statement.{statement}

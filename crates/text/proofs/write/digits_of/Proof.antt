@@ -1,6 +1,6 @@
 -- `text::write::digits_of` meets its contract. Assumes nothing.
 use Prim.Native.Nat.{suc, _≤_, _<_}
-use mathlib.Core.Path.{_≡_, refl, sym, _∙_}
+use mathlib.Core.Path.{_≡_, refl, _∙_}
 use mathlib.Core.List.{_++_, append-nil}
 use native.Mathlib.Omega.{arith}
 use lib.ListN.{length, drop, length-set}

@@ -1,13 +1,12 @@
 -- `messages`, the first message leaves, then acts: one law for each way out of a function. Assumes nothing.
-use Prim.Native.Nat.{ℕ, _+_, _<_}
-use mathlib.Core.Bool.{Bool, true, false, not, _&&_}
+use Prim.Native.Nat.{ℕ, _+_}
+use mathlib.Core.Bool.{Bool, true, false, _&&_}
 use mathlib.Core.List.{List, [], _∷_}
 use mathlib.Core.Logic.{⊎-elim}
 use mathlib.Core.Path.{_≡_, refl, sym, ap, _∙_}
 use native.Mathlib.Omega.{arith}
 use types.Run.{OneOf}
 use denote.Enum.Declared.{tagOf}
-use borrow.Author.Tests.{not-true, not-false, lt-ltb}
 use lib.Dec.{ltb}
 use Rattle.numbers.specs.Choice.{pick}
 use Rattle.numbers.specs.Words.{fits, fitting, onWord}
@@ -20,7 +19,6 @@ use Rattle.state.specs.With.{withDeliveries}
 use Rattle.book.specs.declared.MsgKind.{MsgKind}
 use Rattle.book.specs.declared.MsgKind.the-variants.{Cancel, Activate, Expire}
 use Rattle.book.specs.declared.VenueMsg.{VenueMsg}
-use Rattle.book.specs.declared.VenueOrder.{VenueOrder}
 use Rattle.book.specs.declared.config.Config.{Config}
 use Rattle.deliveries.specs.declared.Deliveries.{Deliveries}
 use Rattle.msgs.specs.declared.MaybeMsg.the-variants as msg
@@ -36,39 +34,16 @@ use Rattle.reports.specs.Log.{logAt, StepResult, expected, actual}
 use Rattle.reports.specs.Report.{withVenue, sentTo, toldIn}
 use Rattle.reports.specs.declared.Venue.{Venue}
 use Rattle.reports.specs.declared.report.Told.{Told}
-use Rattle.reports.proofs.Then.{expected-ran, expected-halt, take-on, take-none, fits-none, fits-some}
-use Rattle.messages.specs.Deeds.{countsOf, ranWith, haltWith, editOrders, editMsgs, editAwaiting, deedIn, withLists, actedIn, lifeOf, expiryOf, timeOf, actsAt}
+use Rattle.reports.proofs.Then.{expected-ran, expected-halt, take-on, take-none}
+use Rattle.deeds.specs.Deeds.{countsOf, ranWith, haltWith, editOrders, editMsgs, editAwaiting, deedIn, withLists, expiryOf, timeOf, actsAt}
+use Rattle.messages.specs.Acts.{actedIn}
 use Rattle.messages.specs.declared.Acted.{Acted}
-use Rattle.messages.specs.declared.Deed.{Deed}
-use Rattle.messages.specs.declared.Expiry.{Expiry}
-use Rattle.messages.specs.declared.Expiry.the-variants as expiry
+use Rattle.deeds.specs.declared.Deed.{Deed}
+use Rattle.deeds.specs.declared.Expiry.{Expiry}
+use Rattle.deeds.specs.declared.Expiry.the-variants as expiry
 
 abbrev pub venueOf : KernelState → Venue
 venueOf s = record { «rng_latency» = s .«rng_latency»; clock = s .clock; seqs = s .seqs; gate = s .gate; counters = s .counters }
-
--- ---- an activation's expiry; b is whether the order is valid
-module _ (o : VenueOrder) (life next : ℕ) (b : Bool) (eb : b ≡ valid o) where
-  pub life-invalid : not b ≡ true → expiry.None ≡ lifeOf o life next
-  unfolding pick
-  life-invalid h = rw (← eb, not-true b h)
-
-  pub life-none : not b ≡ false → life ≡ 0 → expiry.None ≡ lifeOf o life next
-  unfolding pick
-  life-none h k = rw (← eb, not-false b h, k)
-
-  module _ (h : not b ≡ false) (k : 0 < life) (sum : MaybeU64) (e : sum ≡ fitting (o .«active_after_ns» + life)) where
-    pub life-late : sum ≡ u64.None → expiry.Fail TimeOverflow ≡ lifeOf o life next
-    unfolding pick onWord
-    life-late q = rw (← eb, not-false b h, lt-ltb _ _ k, ← e, q)
-
-    module _ (at : ℕ) (q : sum ≡ u64.Some at) (more : MaybeU64) (em : more ≡ fitting (next + 1)) where
-      pub life-full : more ≡ u64.None → expiry.Fail CounterOverflow ≡ lifeOf o life next
-      unfolding pick onWord
-      life-full f = rw (← eb, not-false b h, lt-ltb _ _ k, ← e, q, fits-none (next + 1) (sym em ∙ f))
-
-      pub life-set : (n : ℕ) → more ≡ u64.Some n → expiry.At at ≡ lifeOf o life next
-      unfolding pick onWord
-      life-set n f = rw (← eb, not-false b h, lt-ltb _ _ k, ← e, q, fits-some (next + 1) n (sym em ∙ f))
 
 -- ---- what acts, by the expiry that was tested before
 abbrev tested : Config → MsgKind → Expiry → KernelState → KernelState → rules.Run
@@ -90,7 +65,7 @@ acts-tested c (Activate o life) s t = go (valid o && ltb 0 life) (fitting (o .«
     go true (u64.Some at) false = unfold pick onWord in refl
     go true (u64.Some at) true = unfold pick onWord in refl
 
-not-fail : (x : Expiry) → OneOf (0 ∷ 1 ∷ []) (tagOf Rattle.messages.proofs.Expiry.the-type x) → (c : Config) (k : MsgKind) (s t : KernelState) → tested c k x s t ≡ actsAt c k (timeOf x) t
+not-fail : (x : Expiry) → OneOf (0 ∷ 1 ∷ []) (tagOf Rattle.deeds.proofs.Expiry.the-type x) → (c : Config) (k : MsgKind) (s t : KernelState) → tested c k x s t ≡ actsAt c k (timeOf x) t
 not-fail expiry.None m c k s t = refl
 not-fail (expiry.At at) m c k s t = refl
 not-fail (expiry.Fail h) m c k s t = absurd (⊎-elim (λ x. omega arith) (λ x. omega arith) m)
@@ -119,7 +94,7 @@ module _ (w : List ℕ) (raised : ℕ) (cfg : Config) (v : Venue) (os : Orders) 
         ap (λ (y : Told). actual (toldIn (withLists s os ms ws) y) w) ef
         ∙ leaves s (rw k (expected-halt (logAt w raised) z (withVenue (withLists s os ms ws) v)))
 
-    pub act-leaves : OneOf (0 ∷ 1 ∷ []) (tagOf Rattle.messages.proofs.Expiry.the-type x) → (at : MaybeU64) → at ≡ timeOf x → (waiting : ℕ) (w1 : List ℕ) (d : Deed)
+    pub act-leaves : OneOf (0 ∷ 1 ∷ []) (tagOf Rattle.deeds.proofs.Expiry.the-type x) → (at : MaybeU64) → at ≡ timeOf x → (waiting : ℕ) (w1 : List ℕ) (d : Deed)
         → ((s : KernelState) → record { orders = os .count; msgs = taken .list .count; awaiting = ws .count; deliveries = waiting } ≡ countsOf (withLists s os (taken .list) ws)
         → actual (deedIn (withLists s os (taken .list) ws) d) w1 ≡ expected (logAt w raised) (actsAt cfg (m .kind) at (withVenue (withLists s os (taken .list) ws) v)))
         → (o1 : Orders) → o1 ≡ editOrders (d .orders) os → (m1 : Msgs) → m1 ≡ editMsgs (d .msgs) (taken .list) → (a1 : Orders) → a1 ≡ editAwaiting (d .awaiting) ws

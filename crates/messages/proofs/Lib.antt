@@ -1,4 +1,2 @@
-pub mod StepExits
-pub mod PlaceExits
-pub mod DeedExits
+pub mod EditExits
 pub mod ActExits

@@ -1,5 +1,5 @@
 -- `messages::edit_awaiting` meets its contract. Assumes nothing.
-use Rattle.messages.proofs.PlaceExits.{awaiting-keep, awaiting-come, awaiting-go}
+use Rattle.messages.proofs.EditExits.{awaiting-keep, awaiting-come, awaiting-go}
 use borrow.Author.Needs.{needs}
 use Rattle.messages.proofs.edit_awaiting.Statement.{statement}
 use Rattle.messages.proofs.edit_awaiting.Tie as tie

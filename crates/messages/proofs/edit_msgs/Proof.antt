@@ -1,5 +1,5 @@
 -- `messages::edit_msgs` meets its contract. Assumes nothing.
-use Rattle.messages.proofs.PlaceExits.{msgs-keep, msgs-come, msgs-go}
+use Rattle.messages.proofs.EditExits.{msgs-keep, msgs-come, msgs-go}
 use borrow.Author.Needs.{needs}
 use Rattle.messages.proofs.edit_msgs.Statement.{statement}
 use Rattle.messages.proofs.edit_msgs.Tie as tie

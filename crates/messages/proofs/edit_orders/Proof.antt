@@ -1,5 +1,5 @@
 -- `messages::edit_orders` meets its contract. Assumes nothing.
-use Rattle.messages.proofs.PlaceExits.{orders-keep, orders-come, orders-go}
+use Rattle.messages.proofs.EditExits.{orders-keep, orders-come, orders-go}
 use borrow.Author.Needs.{needs}
 use Rattle.messages.proofs.edit_orders.Statement.{statement}
 use Rattle.messages.proofs.edit_orders.Tie as tie

@@ -1,0 +1,4 @@
+pub mod StepExits
+pub mod PlaceExits
+pub mod DeedExits
+pub mod LifeExits

@@ -1,15 +1,15 @@
-// Runs generated days through `advance` and `pass`: `oracle bench` runs the same days through the published Rust, and what the two print is equal, so that their times are times of the same work.
-// Arguments: the day (1 quiet, 2 queue fills, 3 messages, 4 busy; 0, all four), rows, orders, and how often each day is run. Only the first run of a day is summed.
+// Runs generated days through `run` and `pass`: `oracle bench` runs the same days through the published Rust, and what the two print is equal, so that their times are times of the same work.
+// Arguments: the day (1 quiet, 2 queue fills, 3 messages, 4 busy; 0, all four), rows, orders, how often each day is run, and how many passes a batch makes (0: each call is a batch). Only the first run of a day is summed.
 // It is a tool: its functions are safe and end, and nothing is claimed of what it writes.
 mod day;
 mod line;
 
+use batch::run;
 use book::config::Config;
 use day::Day;
 use day::config_of;
 use day::put_rows;
 use day::start_of;
-use kernel::advance;
 use kernel::pass;
 use line::argument;
 use line::put_line;
@@ -51,9 +51,16 @@ fn add_log(sum: u64, log: &[u64], events: u64) -> u64 {
     s
 }
 
-// A day from its start to its end: the calls of each row are one `advance` to the pause and one `pass`.
-fn play(cfg: Config, rows: &[u64], start: KernelState, log: &mut [u64], summed: bool) -> Total {
-    let mut a = advance(cfg, rows, start, log);
+// A day from its start to its end, a pass between two batches.
+fn play(
+    cfg: Config,
+    rows: &[u64],
+    start: KernelState,
+    log: &mut [u64],
+    summed: bool,
+    passes: u64,
+) -> Total {
+    let mut a = run(cfg, rows, start, log, passes);
     let mut events = a.events;
     let mut sum = 0;
     if summed {
@@ -67,7 +74,10 @@ fn play(cfg: Config, rows: &[u64], start: KernelState, log: &mut [u64], summed: 
             break;
         }
         let p = pass(a.state);
-        a = advance(cfg, rows, p.state, log);
+        // the state goes back into the variable that it came from, so that it is not copied on the way
+        let t = p.state;
+        a.state = t;
+        a = run(cfg, rows, a.state, log, passes);
         events = std::num::wrapping_add_u64(events, a.events);
         if summed {
             sum = add_log(sum, log, a.events);
@@ -87,10 +97,10 @@ fn play(cfg: Config, rows: &[u64], start: KernelState, log: &mut [u64], summed: 
 fn play_all(day: Day, repeats: u64, rows: &[u64], log: &mut [u64]) {
     let cfg = config_of(day);
     let start = start_of(day);
-    let first = play(cfg, rows, start, log, true);
+    let first = play(cfg, rows, start, log, true, day.passes);
     let mut events = first.events;
     for _ in 1..repeats {
-        let r = play(cfg, rows, start, log, false);
+        let r = play(cfg, rows, start, log, false, day.passes);
         events = std::num::wrapping_add_u64(events, r.events);
     }
     put_line(day, events, first.sum, first.position);
@@ -103,10 +113,10 @@ fn play_first(day: Day, repeats: u64, rows: &[u64], words: usize, log: &mut [u64
     }
 }
 
-// Rows and log are made once a day, and are not cleared between its runs.
+// Rows and log are made once a day, and are not cleared between its runs. The log has room for a call behind 512 records.
 fn play_day(day: Day, repeats: u64) {
     let mut rows = [0u64; 40960];
-    let mut log = [0u64; 6144];
+    let mut log = [0u64; 12288];
     let words = put_rows(day, &mut rows);
     play_first(day, repeats, &rows, words, &mut log);
 }
@@ -116,12 +126,14 @@ fn main() {
     let count = argument(2, 64);
     let orders = argument(3, 4);
     let repeats = argument(4, 1);
+    let passes = argument(5, 0);
     for n in 1..5u64 {
         if number == 0 || number == n {
             let day = Day {
                 number: n,
                 rows: count,
                 orders,
+                passes,
             };
             play_day(day, repeats);
         }

@@ -50,12 +50,12 @@ impl OrderState {
 // An order at the venue: resting, pending activation or awaiting a cancel's outcome.
 pub struct VenueOrder {
     pub id: u64,
-    pub side: Side,
     pub price: u64,
     pub qty: u64,
     pub filled: u64,
-    pub state: OrderState,
     pub active_after_ns: u64,
+    pub side: Side,
+    pub state: OrderState,
     pub cancel_inflight: bool,
 }
 

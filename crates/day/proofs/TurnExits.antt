@@ -11,8 +11,9 @@ use Rattle.state.specs.Numbers.{isTerminalPhase}
 use Rattle.book.specs.declared.config.Config.{Config}
 use Rattle.state.specs.declared.KernelState.{KernelState}
 use Rattle.rules.specs.Calls as calls
-use Rattle.kernel.specs.Calls.{answerNumber, actualAdvance, actualPass}
-use Rattle.kernel.specs.declared.Advanced.{Advanced}
+use Rattle.entry.specs.Entry.{answerNumber}
+use Rattle.kernel.specs.Calls.{actualAdvance, actualPass}
+use Rattle.batch.specs.declared.Advanced.{Advanced}
 use Rattle.kernel.specs.declared.Passed.{Passed}
 use Rattle.text.specs.Write.{Text, textAt, texted}
 use Rattle.lines.specs.Print.{callText, filledAfter}

@@ -798,8 +798,3 @@ pub fn deed_of(
         MsgKind::Expire { id } => expire(log, raised, cfg, id, v, orders, counts),
     }
 }
-
-// The first message leaves, then acts.
-// A delivery on its way joins those that wait.
-// The same over the whole state.
-// The messages without the first expiry of the order.

@@ -17,14 +17,14 @@ use Rattle.numbers.specs.declared.MaybeU64.the-variants as u64
 use Rattle.numbers.specs.declared.position.Moved.{Moved}
 use Rattle.numbers.specs.declared.position.Moved.the-variants.{Out, To}
 use Rattle.numbers.specs.declared.position.Position.{Position}
-use Rattle.lists.specs.Lists.{onSome, live, popped, emptied}
+use Rattle.lists.specs.Lists.{Row, onSome, live, popped, emptied}
 use Rattle.lists.proofs.Loops.{at-place}
 use Rattle.lists.proofs.Sums.{take-case}
 use Rattle.book.specs.Entries.{blankMsg, blankDelivery, blankObs}
 use Rattle.msgs.specs.Rows.{msgsRow}
-use Rattle.deliveries.specs.Rows.{deliveriesRow, deliveriesTaken}
+use Rattle.deliveries.specs.Rows.{deliveriesRow, deliveriesOf, deliveriesTaken}
 use Rattle.observed.specs.Rows.{observedRow}
-use Rattle.state.specs.With.{withControl, withMsgs, withDeliveries, withObserved, withAgent, withAccount, withCounters, controlPhase, controlStatus, agentPos, agentDeliveredFills, agentDeliveredLocalRejects, countersEofDroppedMsgs, countersEofDroppedObs}
+use Rattle.state.specs.With.{withDeliveries, withAgent, withAccount, controlPhase, controlStatus, agentPos, agentDeliveredFills, agentDeliveredLocalRejects, countersEofDroppedMsgs, countersEofDroppedObs}
 use Rattle.book.specs.declared.Delivery.{Delivery}
 use Rattle.book.specs.declared.FillRec.{FillRec}
 use Rattle.book.specs.declared.MaybeFill.{MaybeFill}
@@ -39,6 +39,7 @@ use Rattle.msgs.specs.declared.Msgs.{Msgs}
 use Rattle.observed.specs.declared.Observed.{Observed}
 use Rattle.state.specs.declared.AgentView.{AgentView}
 use Rattle.state.specs.declared.Control.{Control}
+use Rattle.state.specs.declared.Counters.{Counters}
 use Rattle.state.specs.declared.HaltReason.the-variants.{LedgerOverflow, CounterOverflow}
 use Rattle.state.specs.declared.KernelEvent.{KernelEvent}
 use Rattle.state.specs.declared.KernelEvent.the-variants.{Delivered, EndOfData}
@@ -48,10 +49,13 @@ use Rattle.state.specs.declared.Status.the-variants as status
 use Rattle.rules.specs.Run as rules
 use Rattle.rules.specs.Matching.{moved}
 use Rattle.rules.specs.Delivery.{countFill, moveAgent, isLocal, isRejected, countReject, onDelivery, deliver, deliverNext, deliverAll, droppedEvent, emptyQueues, closeData, endOfData}
+use Rattle.rules.specs.Calls.{isPaused}
 use Rattle.reports.specs.Log.{logAt, appendEvent, appendEvents, StepResult, expected, actual}
-use Rattle.delivery.specs.Delivery.{agentIn, withDelivered, deliveryStepIn, withEmptied, emptiedIn}
+use Rattle.delivery.specs.Delivery.{agentIn, withDelivered, deliveryStepIn, withEmptied, emptiedIn, withClosed, closedIn, withClosing, closingIn}
 use Rattle.reports.specs.declared.Outcome.the-variants.{Ran, Halt, Ended}
+use Rattle.reports.specs.declared.Venue.{Venue}
 use Rattle.delivery.specs.declared.AgentStep.{AgentStep}
+use Rattle.delivery.specs.declared.Closed.{Closed}
 use Rattle.delivery.specs.declared.Emptied.{Emptied}
 use Rattle.delivery.specs.declared.DeliveryStep.{DeliveryStep}
 use Rattle.reports.proofs.Append.{appended-append}
@@ -147,18 +151,24 @@ module _ (w : List ℕ) (n : ℕ) (d : Delivery) (agent : AgentView) (account : 
         (rw e (expected-ran (logAt w1 m) (withDelivered s (b .agent) (onDelivery (d .report) account)))))
 
 -- ---- the first delivery
+-- d and l are what taking it from the list of s gives, k and w1 what handing it left
+pub delivered-next : (s : KernelState) (d : Delivery) (l : Row Delivery)
+    → popped 24 blankDelivery (deliveriesRow (s .deliveries)) .got ≡ some d → popped 24 blankDelivery (deliveriesRow (s .deliveries)) .list ≡ l
+    → (k : DeliveryStep) (n : ℕ) (w w1 : List ℕ) → ((u : KernelState) → actual (deliveryStepIn u k) w1 ≡ expected (logAt w n) (deliver d (withDelivered u (s .agent) (s .account))))
+    → actual (deliveryStepIn (withDeliveries s (deliveriesOf l)) k) w1 ≡ expected (logAt w n) (deliverNext s)
+unfolding deliverNext rules.taking onSome
+delivered-next s d l g p k n w w1 e = rw (g, p) (e (withDeliveries s (deliveriesOf l)))
+
 -- t is what the code has of taking it from the list of s
 module _ (s : KernelState) (t : DeliveriesTaken) (p : deliveriesTaken t ≡ popped 24 blankDelivery (deliveriesRow (s .deliveries))) where
   pub next-none : t .got ≡ delivery.None → deliverNext s ≡ rules.ranTo s
   unfolding deliverNext rules.taking onSome
   next-none h = rw (← p, h)
 
-  -- k and w1 are what handing it left
   pub next-delivered : (w : List ℕ) (n : ℕ) (d : Delivery) → t .got ≡ delivery.Some d → (k : DeliveryStep) (w1 : List ℕ)
       → ((u : KernelState) → actual (deliveryStepIn u k) w1 ≡ expected (logAt w n) (deliver d (withDelivered u (s .agent) (s .account))))
       → actual (deliveryStepIn (withDeliveries s (t .list)) k) w1 ≡ expected (logAt w n) (deliverNext s)
-  unfolding deliverNext rules.taking onSome
-  next-delivered w n d h k w1 e = rw (← p, h) (e (withDeliveries s (t .list)))
+  next-delivered w n d h k w1 e = delivered-next s d (deliveriesRow (t .list)) (rw (← p, h)) (rw (← p)) k n w w1 e
 
 -- ---- deliver_all
 pub one-less : (d : Deliveries) (t : DeliveriesTaken) → deliveriesTaken t ≡ popped 24 blankDelivery (deliveriesRow d) → (y : Delivery) → t .got ≡ delivery.Some y → d .count ≡ suc (t .list .count)
@@ -215,39 +225,53 @@ dropped-all w w1 n m msgs i c h k e =
     rw (le-leb (msgs .count) 16 c) (rw (drop-of-length-le (take (msgs .count) (msgs .slots)) past) at e)
 
 -- ---- close_data
-module _ (w w1 : List ℕ) (raised n : ℕ) (s : KernelState) (m : Msgs) (o : Observed) (sum : MaybeU64)
-    (em : logAt w1 n ≡ appendEvents (logAt w raised) (map droppedEvent (live 16 (msgsRow (s .msgs)))))
-    (hm : msgsRow m ≡ emptied 16 blankMsg (msgsRow (s .msgs))) (ho : observedRow o ≡ emptied 16 blankObs (observedRow (s .observed)))
-    (e : sum ≡ fitting (s .counters .«eof_dropped_msgs» + s .msgs .count)) where
-  abbrev cleared : KernelState
-  cleared = withObserved (withMsgs s m) o
+-- the venue with other counters
+abbrev counting : Venue → Counters → Venue
+counting v c = record { «rng_latency» = v .«rng_latency»; clock = v .clock; seqs = v .seqs; gate = v .gate; counters = c }
 
-  pub close-full : sum ≡ u64.None → actual (record { outcome = Halt CounterOverflow; state = cleared; raised = n }) w1 ≡ expected (logAt w raised) (closeData s)
+module _ (w w1 : List ℕ) (raised n : ℕ) (c : Control) (v : Venue) (ms : Msgs) (os : Observed) (m : Msgs) (o : Observed) (sum : MaybeU64)
+    (em : logAt w1 n ≡ appendEvents (logAt w raised) (map droppedEvent (live 16 (msgsRow ms))))
+    (hm : msgsRow m ≡ emptied 16 blankMsg (msgsRow ms)) (ho : observedRow o ≡ emptied 16 blankObs (observedRow os))
+    (e : sum ≡ fitting (v .counters .«eof_dropped_msgs» + ms .count)) where
+  pub close-full : sum ≡ u64.None → (s : KernelState)
+      → actual (closedIn s (record { outcome = Halt CounterOverflow; control = c; venue = v; msgs = m; observed = o; raised = n })) w1 ≡ expected (logAt w raised) (closeData (withClosed s c v ms os))
   unfolding closeData emptyQueues onWord expected appendEvents
-  close-full h = rw (← hm, ← ho, ← e, h, ← appended-append, ← em)
+  close-full h s = rw (← hm, ← ho, ← e, h, ← appended-append, ← em)
 
-  module _ (x : ℕ) (sum2 : MaybeU64) (h : sum ≡ u64.Some x) (e2 : sum2 ≡ fitting (s .counters .«eof_dropped_obs» + s .observed .count)) where
-    pub close-full-2 : sum2 ≡ u64.None
-        → actual (record { outcome = Halt CounterOverflow; state = withCounters cleared (countersEofDroppedMsgs (s .counters) x); raised = n }) w1 ≡ expected (logAt w raised) (closeData s)
+  module _ (x : ℕ) (sum2 : MaybeU64) (h : sum ≡ u64.Some x) (e2 : sum2 ≡ fitting (v .counters .«eof_dropped_obs» + os .count)) where
+    pub close-full-2 : sum2 ≡ u64.None → (s : KernelState)
+        → actual (closedIn s (record { outcome = Halt CounterOverflow; control = c; venue = counting v (countersEofDroppedMsgs (v .counters) x); msgs = m; observed = o; raised = n })) w1
+        ≡ expected (logAt w raised) (closeData (withClosed s c v ms os))
     unfolding closeData emptyQueues onWord expected appendEvents
-    close-full-2 h2 = rw (← hm, ← ho, ← e, h, ← e2, h2, ← appended-append, ← em)
+    close-full-2 h2 s = rw (← hm, ← ho, ← e, h, ← e2, h2, ← appended-append, ← em)
 
-    pub close-ends : (at : Control) → at ≡ controlStatus (controlPhase (s .control) phase.Terminal) status.EndOfData → (w2 : List ℕ) (k y : ℕ) → sum2 ≡ u64.Some y → logAt w2 k ≡ appendEvent (logAt w1 n) (EndOfData (s .msgs .count) (s .observed .count))
-        → actual (record {
-          outcome = Ended;
-          state = withControl (withCounters cleared (countersEofDroppedObs (countersEofDroppedMsgs (s .counters) x) y)) at;
-          raised = k;
-        }) w2 ≡ expected (logAt w raised) (closeData s)
+    pub close-ends : (at : Control) → at ≡ controlStatus (controlPhase c phase.Terminal) status.EndOfData → (w2 : List ℕ) (k y : ℕ) → sum2 ≡ u64.Some y
+        → logAt w2 k ≡ appendEvent (logAt w1 n) (EndOfData (ms .count) (os .count)) → (s : KernelState)
+        → actual (closedIn s (record { outcome = Ended; control = at; venue = counting v (countersEofDroppedObs (countersEofDroppedMsgs (v .counters) x) y); msgs = m; observed = o; raised = k })) w2
+        ≡ expected (logAt w raised) (closeData (withClosed s c v ms os))
     unfolding closeData emptyQueues onWord expected appendEvents
-    close-ends at q w2 k y h2 e3 = rw (q, ← hm, ← ho, ← e, h, ← e2, h2, ← appended-append, ← em, ← e3)
+    close-ends at q w2 k y h2 e3 s = rw (q, ← hm, ← ho, ← e, h, ← e2, h2, ← appended-append, ← em, ← e3)
+
+-- the run that is over does not wait for a decision
+pub over-unpaused : (c at : Control) → at ≡ controlStatus (controlPhase c phase.Terminal) status.EndOfData → isPaused (at .phase) ≡ false
+over-unpaused c at q = ap (λ (x : Control). isPaused (x .phase)) q
 
 -- ---- end_of_data
-module _ (w w1 : List ℕ) (n : ℕ) (s : KernelState) (h : Emptied)
-    (e : actual (emptiedIn s h) w1 ≡ expected (logAt w n) (deliverAll (s .deliveries .count) s)) where
-  pub end-stops : Stopped (h .outcome) → actual (emptiedIn s h) w1 ≡ expected (logAt w n) (endOfData s)
+module _ (w w1 : List ℕ) (n : ℕ) (c : Control) (v : Venue) (ms : Msgs) (ds : Deliveries) (os : Observed) (g : AgentView) (a : AgentAccount) (h : Emptied)
+    (e : (s : KernelState) → actual (emptiedIn s h) w1 ≡ expected (logAt w n) (deliverAll (ds .count) (withEmptied s ds g a))) where
+  pub end-stops : Stopped (h .outcome) → (s : KernelState)
+      → actual (closingIn s (record { outcome = h .outcome; control = c; venue = v; msgs = ms; deliveries = h .deliveries; observed = os; agent = h .agent; account = h .account; raised = h .raised })) w1
+      ≡ expected (logAt w n) (endOfData (withClosing s c v ms ds os g a))
   unfolding endOfData
-  end-stops o = then-stop (logAt w n) (deliverAll (s .deliveries .count) s) closeData (emptiedIn s h) w1 e o
+  end-stops o s =
+      let t : KernelState = withClosed s c v ms os in
+      then-stop (logAt w n) (deliverAll (ds .count) (withEmptied t ds g a)) closeData (emptiedIn t h) w1 (e t) o
 
-  pub end-closes : h .outcome ≡ Ran → expected (logAt w1 (h .raised)) (closeData (emptiedIn s h .state)) ≡ expected (logAt w n) (endOfData s)
+  pub end-closes : h .outcome ≡ Ran → (w2 : List ℕ) (k : Closed)
+      → ((s : KernelState) → actual (closedIn s k) w2 ≡ expected (logAt w1 (h .raised)) (closeData (withClosed s c v ms os))) → (s : KernelState)
+      → actual (closingIn s (record { outcome = k .outcome; control = k .control; venue = k .venue; msgs = k .msgs; deliveries = h .deliveries; observed = k .observed; agent = h .agent; account = h .account; raised = k .raised })) w2
+      ≡ expected (logAt w n) (endOfData (withClosing s c v ms ds os g a))
   unfolding endOfData
-  end-closes o = sym (then-ran (logAt w n) (deliverAll (s .deliveries .count) s) closeData (emptiedIn s h) w1 e o)
+  end-closes o w2 k f s =
+      let t : KernelState = withClosed s c v ms os in
+      then-on (logAt w n) (deliverAll (ds .count) (withEmptied t ds g a)) closeData (emptiedIn t h) w1 (e t) o (f (withEmptied s (h .deliveries) (h .agent) (h .account)))

@@ -14,15 +14,17 @@ use msgs::Msgs;
 use numbers::MaybeU64;
 use numbers::position::Moved;
 use numbers::words::checked_add;
+use observed::Observed;
 use reports::Outcome;
-use reports::Step;
+use reports::Venue;
 use reports::log::emit;
 use state::AgentView;
+use state::Control;
 use state::HaltReason;
 use state::KernelEvent;
-use state::KernelState;
 use state::Status;
 ghost use mathlib.Core.Path.{_≡_};
+ghost use mathlib.Core.Bool.{false};
 ghost use mathlib.Core.List.{List, map};
 ghost use Prim.Native.Nat.{ℕ};
 ghost use Rattle.lists.specs.Lists.{live};
@@ -31,8 +33,9 @@ ghost use Rattle.msgs.specs.Rows.{msgsRow};
 ghost use Rattle.state.specs.With.{withAgent};
 ghost use Rattle.state.specs.declared.KernelState.{KernelState};
 ghost use Rattle.rules.specs.Delivery.{moveAgent, countReject, isRejected, isLocal, deliver, deliverAll, droppedBy, droppedEvent, closeData, endOfData};
+ghost use Rattle.rules.specs.Calls.{isPaused};
 ghost use Rattle.reports.specs.Log.{logAt, expected, actual, appendEvents};
-ghost use Rattle.delivery.specs.Delivery.{agentIn, deliveryStepIn, withDelivered, emptiedIn, withEmptied};
+ghost use Rattle.delivery.specs.Delivery.{agentIn, deliveryStepIn, withDelivered, emptiedIn, withEmptied, closedIn, withClosed, closingIn, withClosing};
 
 // What a delivery does to the agent.
 pub struct AgentStep {
@@ -52,6 +55,29 @@ pub struct DeliveryStep {
 pub struct Emptied {
     pub outcome: Outcome,
     pub deliveries: Deliveries,
+    pub agent: AgentView,
+    pub account: AgentAccount,
+    pub raised: u64,
+}
+
+// What dropping the messages and observations changes of the state.
+pub struct Closed {
+    pub outcome: Outcome,
+    pub control: Control,
+    pub venue: Venue,
+    pub msgs: Msgs,
+    pub observed: Observed,
+    pub raised: u64,
+}
+
+// What the end of the data changes of the state: all but the booked orders and those that await.
+pub struct Closing {
+    pub outcome: Outcome,
+    pub control: Control,
+    pub venue: Venue,
+    pub msgs: Msgs,
+    pub deliveries: Deliveries,
+    pub observed: Observed,
     pub agent: AgentView,
     pub account: AgentAccount,
     pub raised: u64,
@@ -266,40 +292,41 @@ fn emit_dropped(log: &mut [u64], raised: u64, msgs: Msgs) -> u64
 }
 
 // No delivery is left: the messages and observations are dropped and counted.
-fn close_data(log: &mut [u64], raised: u64, s: KernelState) -> Step
-    ensures { λ r. ⌜ actual r (now (log .exit)) ≡ expected (logAt (now (log .entry)) raised) (closeData s) ⌝ }
+fn close_data(
+    log: &mut [u64],
+    raised: u64,
+    control: Control,
+    venue: Venue,
+    msgs: Msgs,
+    observed: Observed,
+) -> Closed
+    ensures { λ r. ⌜ ((s : KernelState) → actual (closedIn s r) (now (log .exit)) ≡ expected (logAt (now (log .entry)) raised) (closeData (withClosed s control venue msgs observed)))
+        × (isPaused (control .phase) ≡ false → isPaused (r .control .phase) ≡ false) ⌝ }
 {
-    let msgs = s.msgs;
-    let observed = s.observed;
     let n = emit_dropped(log, raised, msgs);
     let dropped_msgs = msgs.count as u64;
     let dropped_obs = observed.count as u64;
     let no_msgs = msgs.clear();
     let no_obs = observed.clear();
-    let mut t = s;
-    t.msgs = no_msgs;
-    t.observed = no_obs;
-    let sum = checked_add(s.counters.eof_dropped_msgs, dropped_msgs);
+    let mut full = Closed {
+        outcome: Outcome::Halt(HaltReason::CounterOverflow),
+        control,
+        venue,
+        msgs: no_msgs,
+        observed: no_obs,
+        raised: n,
+    };
+    let sum = checked_add(venue.counters.eof_dropped_msgs, dropped_msgs);
     let MaybeU64::Some(eof_dropped_msgs) = sum else {
-        return Step {
-            outcome: Outcome::Halt(HaltReason::CounterOverflow),
-            state: t,
-            raised: n,
-        };
+        return full;
     };
-    t.counters.eof_dropped_msgs = eof_dropped_msgs;
-    let sum2 = checked_add(s.counters.eof_dropped_obs, dropped_obs);
+    full.venue.counters.eof_dropped_msgs = eof_dropped_msgs;
+    let sum2 = checked_add(venue.counters.eof_dropped_obs, dropped_obs);
     let MaybeU64::Some(eof_dropped_obs) = sum2 else {
-        return Step {
-            outcome: Outcome::Halt(HaltReason::CounterOverflow),
-            state: t,
-            raised: n,
-        };
+        return full;
     };
-    t.counters.eof_dropped_obs = eof_dropped_obs;
-    let c = s.control;
-    let control = c.ended(Status::EndOfData);
-    t.control = control;
+    full.venue.counters.eof_dropped_obs = eof_dropped_obs;
+    let end = control.ended(Status::EndOfData);
     let m = emit(
         log,
         n,
@@ -308,34 +335,66 @@ fn close_data(log: &mut [u64], raised: u64, s: KernelState) -> Step
             dropped_obs,
         },
     );
-    Step {
+    let counted = full.venue;
+    let none = full.msgs;
+    let unseen = full.observed;
+    Closed {
         outcome: Outcome::Ended,
-        state: t,
+        control: end,
+        venue: counted,
+        msgs: none,
+        observed: unseen,
         raised: m,
     }
 }
 
-pub fn end_of_data(log: &mut [u64], raised: u64, s: KernelState) -> Step
-    ensures { λ r. ⌜ actual r (now (log .exit)) ≡ expected (logAt (now (log .entry)) raised) (endOfData s) ⌝ }
+pub fn end_of_data(
+    log: &mut [u64],
+    raised: u64,
+    control: Control,
+    venue: Venue,
+    msgs: Msgs,
+    deliveries: Deliveries,
+    observed: Observed,
+    agent: AgentView,
+    account: AgentAccount,
+) -> Closing
+    ensures { λ r. ⌜ ((s : KernelState) → actual (closingIn s r) (now (log .exit)) ≡ expected (logAt (now (log .entry)) raised) (endOfData (withClosing s control venue msgs deliveries observed agent account)))
+        × (isPaused (control .phase) ≡ false → isPaused (r .control .phase) ≡ false) ⌝ }
 {
-    let deliveries = s.deliveries;
-    let agent = s.agent;
-    let account = s.account;
     let h = deliver_all(log, raised, deliveries, agent, account);
     let d = h.deliveries;
     let g = h.agent;
     let a = h.account;
-    let mut t = s;
-    t.deliveries = d;
-    t.agent = g;
-    t.account = a;
     let o = h.outcome;
     let Outcome::Ran = o else {
-        return Step {
+        return Closing {
             outcome: o,
-            state: t,
+            control,
+            venue,
+            msgs,
+            deliveries: d,
+            observed,
+            agent: g,
+            account: a,
             raised: h.raised,
         };
     };
-    close_data(log, h.raised, t)
+    let c = close_data(log, h.raised, control, venue, msgs, observed);
+    let outcome = c.outcome;
+    let end = c.control;
+    let counted = c.venue;
+    let none = c.msgs;
+    let unseen = c.observed;
+    Closing {
+        outcome,
+        control: end,
+        venue: counted,
+        msgs: none,
+        deliveries: d,
+        observed: unseen,
+        agent: g,
+        account: a,
+        raised: c.raised,
+    }
 }

@@ -1,1 +1,1 @@
-pub mod CallsExits
+mod CallsExits

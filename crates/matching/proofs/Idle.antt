@@ -1,8 +1,8 @@
--- A row that finds no live order to match or to sweep changes nothing, nor does one over a count above the capacity. Assumes nothing.
+-- A sweep that finds no terminal order changes nothing, nor does a pass or a sweep over a count above the capacity. Assumes nothing.
 use Prim.Native.Nat.{ℕ, zero, suc, _+_, _≤_, _<_}
 use mathlib.Core.Bool.{Bool, true, false}
 use mathlib.Core.List.{List, [], _∷_}
-use mathlib.Core.Option.{Option, none, some}
+use mathlib.Core.Option.{Option, none}
 use mathlib.Core.Path.{_≡_, refl, sym, ap, _∙_}
 use native.Mathlib.Nat.{le-of-suc-le-suc}
 use native.Mathlib.Omega.{arith}
@@ -22,8 +22,8 @@ use Rattle.book.specs.declared.config.KernelTick.{KernelTick}
 use Rattle.orders.specs.declared.Orders.{Orders}
 use Rattle.state.specs.declared.KernelState.{KernelState}
 use Rattle.rules.specs.Run.{ranTo, andThen}
-use Rattle.rules.specs.Matching.{matches, Fills, fillsOf, fillsAt, filling, matchAt, matchFrom, terminalAt, sweepFrom, sweep}
-use Rattle.matching.specs.Matching.{concerns, busy}
+use Rattle.rules.specs.Matching.{fillsAt, matchAt, matchFrom, terminalAt, sweepFrom, sweep}
+use Rattle.matching.specs.Matching.{anyTerminal}
 
 -- ---- a search that finds none: no entry fits
 module _ {A : Type 0} (p : A → Bool) (d : A) (z : p d ≡ false) where
@@ -40,41 +40,27 @@ module _ {A : Type 0} (p : A → Bool) (d : A) (z : p d ≡ false) where
       (λ _ e. let y : _≡_ {A = ℕ} 0 1 = cc in absurd (omega arith))
       (λ e _ i. none-fits l (ltb-false _ _ e) i)
 
--- ---- the row concerns no live order
-module _ (row : KernelTick) (os : Orders) (h : busy row os ≡ false) where
-  found-none : foundIn (concerns row) (live 8 (ordersRow os)) ≡ none
-  unfolding busy
-  found-none = some-case (λ (b : Bool). b ≡ false → foundIn (concerns row) (live 8 (ordersRow os)) ≡ none) (foundIn (concerns row) (live 8 (ordersRow os))) (λ _. true) false
-      (λ _ _ e. let y : _≡_ {A = ℕ} 0 1 = cc in absurd (omega arith)) (λ e _. e) h
+-- ---- no live order is terminal
+module _ (os : Orders) (h : anyTerminal os ≡ false) where
+  abbrev ends : VenueOrder → Bool
+  ends o = isTerminal (o .state)
 
-  blank-still : concerns row blankOrder ≡ false
-  unfolding concerns matches pick
-  blank-still = refl
+  found-none : foundIn ends (live 8 (ordersRow os)) ≡ none
+  unfolding anyTerminal
+  found-none = some-case (λ (b : Bool). b ≡ false → foundIn ends (live 8 (ordersRow os)) ≡ none) (foundIn ends (live 8 (ordersRow os))) (λ _. true) false
+      (λ _ _ e. let y : _≡_ {A = ℕ} 0 1 = cc in absurd (omega arith)) (λ e _. e) h
 
   live-is : leb (os .count) 8 ≡ true → live 8 (ordersRow os) ≡ take (os .count) (os .slots)
   unfolding live pick
   live-is a = rw a
 
-  still-at : (i : ℕ) → onSome (entryAt 8 blankOrder i (ordersRow os)) (concerns row) false ≡ false
+  still-at : (i : ℕ) → onSome (entryAt 8 blankOrder i (ordersRow os)) ends false ≡ false
   unfolding entryAt onSome
   still-at i =
-      let P : Option VenueOrder → Type 0 = λ x. onSome x (concerns row) false ≡ false in
+      let P : Option VenueOrder → Type 0 = λ x. onSome x ends false ≡ false in
       pick-case P (leb (os .count) 8) _ _ (λ a. pick-case P (ltb i (os .count)) _ _
-      (λ b. ap (concerns row) (sym (getD-take (os .count) (os .slots) i blankOrder (ltb-true _ _ b)) ∙ ap (λ (l : List VenueOrder). getD l i blankOrder) (sym (live-is a))) ∙ none-found (concerns row) blankOrder blank-still _ found-none i)
+      (λ b. ap ends (sym (getD-take (os .count) (os .slots) i blankOrder (ltb-true _ _ b)) ∙ ap (λ (l : List VenueOrder). getD l i blankOrder) (sym (live-is a))) ∙ none-found ends blankOrder refl _ found-none i)
       (λ _. refl)) (λ _. refl)
-
-  still : (i : ℕ) (o : VenueOrder) → entryAt 8 blankOrder i (ordersRow os) ≡ some o → concerns row o ≡ false
-  unfolding onSome
-  still i o e = sym (ap (λ (x : Option VenueOrder). onSome x (concerns row) false) e) ∙ still-at i
-
-module _ (row : KernelTick) (o : VenueOrder) (h : concerns row o ≡ false) where
-  unmatched : matches row o ≡ false
-  unfolding concerns
-  unmatched = pick-case (λ (b : Bool). b ≡ false → matches row o ≡ false) (isTerminal (o .state)) true (matches row o) (λ _ e. let y : _≡_ {A = ℕ} 0 1 = cc in absurd (omega arith)) (λ _ e. e) h
-
-  unswept : isTerminal (o .state) ≡ false
-  unfolding concerns
-  unswept = pick-case (λ (b : Bool). b ≡ false → isTerminal (o .state) ≡ false) (isTerminal (o .state)) true (matches row o) (λ _ e. let y : _≡_ {A = ℕ} 0 1 = cc in absurd (omega arith)) (λ e _. e) h
 
 -- ---- the pass and the sweep, where no turn does anything
 match-idle : (c : Config) (row : KernelTick) (s : KernelState) → ((i : ℕ) → matchAt c row i s ≡ ranTo s) → (k i : ℕ) → matchFrom c row k i s ≡ ranTo s
@@ -87,19 +73,9 @@ unfolding sweepFrom andThen pick
 sweep-idle s h zero i = refl
 sweep-idle s h (suc k) i = rw (h i) (sweep-idle s h k (i + 1))
 
--- the row concerns no live order
-module _ (c : Config) (row : KernelTick) (s : KernelState) (h : busy row (s .orders) ≡ false) where
-  match-still : (i : ℕ) → matchAt c row i s ≡ ranTo s
-  unfolding matchAt fillsAt fillsOf pick
-  match-still i = some-case (λ (f : Fills). filling c i s f ≡ ranTo s) _ _ _ (λ o e. rw (unmatched row o (still row (s .orders) h i o e))) (λ _. refl)
-
-  terminal-none : (i : ℕ) → terminalAt i s ≡ false
-  unfolding terminalAt
-  terminal-none i = some-case (λ (b : Bool). b ≡ false) _ _ _ (λ o e. unswept row o (still row (s .orders) h i o e)) (λ _. refl)
-
-pub idle : (c : Config) (row : KernelTick) (s : KernelState) → busy row (s .orders) ≡ false → andThen (matchFrom c row (s .orders .count) 0 s) sweep ≡ ranTo s
-unfolding sweep andThen
-idle c row s h = rw (match-idle c row s (match-still c row s h) (s .orders .count) 0) (sweep-idle s (terminal-none c row s h) (s .orders .count) 0)
+pub none-terminal : (s : KernelState) → anyTerminal (s .orders) ≡ false → sweep s ≡ ranTo s
+unfolding sweep terminalAt
+none-terminal s h = sweep-idle s (still-at (s .orders) h) (s .orders .count) 0
 
 -- the count is above the capacity: no order stands at any place
 module _ (s : KernelState) (h : 8 < s .orders .count) where

@@ -1,2 +1,3 @@
 pub mod MatchingExits
 pub mod Idle
+pub mod Pass

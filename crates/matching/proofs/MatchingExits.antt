@@ -1,22 +1,27 @@
 -- Matching: one law for each way out of a function. Assumes nothing.
-use Prim.Native.Nat.{ℕ, suc, _+_, _*_, _≤_, _<_}
+use Prim.Native.Nat.{ℕ, suc, _+_, _*_, _%_, _^_, _≤_, _<_}
 use mathlib.Core.Bool.{Bool, true, false}
 use mathlib.Core.List.{List}
-use mathlib.Core.Logic.{inl, inr}
+use mathlib.Core.Logic.{⊎-elim}
 use mathlib.Core.Option.{none, some}
-use mathlib.Core.Path.{_≡_, refl, sym, ap, _∙_, subst}
-use lib.ListN.{length, set}
-use borrow.Author.Tests.{eq-eqb, ne-eqb}
+use mathlib.Core.Path.{_≡_, refl, sym, _∙_, subst}
+use native.Mathlib.Nat.{mod-eq-of-lt}
+use native.Mathlib.Omega.{arith}
+use lib.Dec.{ltb, leb}
+use lib.ListN.{getD}
+use lib.Seq.{set-getD}
+use borrow.Author.Tests.{eq-eqb, ne-eqb, lt-leb, le-leb, leb-true, ltb-true}
 use Rattle.numbers.specs.Choice.{pick}
 use Rattle.numbers.specs.Words.{fitting, onWord}
 use Rattle.numbers.specs.declared.MaybeU64.{MaybeU64}
 use Rattle.numbers.specs.declared.MaybeU64.the-variants as u64
-use Rattle.lists.specs.Lists.{onSome, live, foundIn, entryAt, takeAt, storeAt, putBefore}
-use Rattle.lists.proofs.Exits.{put-full, push-in, store-in}
+use Rattle.lists.specs.Lists.{Row, Put, onSome, live, foundIn, entryAt, takeAt, storeAt, putBefore}
+use Rattle.lists.proofs.Cases.{pick-case}
+use Rattle.lists.proofs.Exits.{entry-in}
 use Rattle.book.specs.Entries.{blankOrder, remaining, inState, isTerminal, idAbove}
 use Rattle.orders.specs.Rows.{ordersRow, ordersOf, ordersPut, ordersTaken, orderIn}
-use Rattle.deliveries.specs.Rows.{deliveriesRow}
-use Rattle.state.specs.With.{withOrders, withMsgs, withDeliveries, seqsNextExecId, gateMark2, countersVenueFills}
+use Rattle.state.specs.With.{withOrders, withMsgs, seqsNextExecId, gateMark2, countersVenueFills}
+use Rattle.book.specs.declared.Delivery.{Delivery}
 use Rattle.book.specs.declared.ExecKind.{ExecKind}
 use Rattle.book.specs.declared.ExecKind.the-variants as exec
 use Rattle.book.specs.declared.FillRec.{FillRec}
@@ -34,46 +39,54 @@ use Rattle.orders.specs.declared.MaybeOrder.the-variants as found
 use Rattle.orders.specs.declared.Orders.{Orders}
 use Rattle.orders.specs.declared.OrdersPut.{OrdersPut}
 use Rattle.orders.specs.declared.OrdersTaken.{OrdersTaken}
+use Rattle.state.specs.declared.Clock.{Clock}
 use Rattle.state.specs.declared.GateState.{GateState}
 use Rattle.state.specs.declared.HaltReason.{HaltReason}
 use Rattle.state.specs.declared.HaltReason.the-variants.{LedgerOverflow, CounterOverflow}
 use Rattle.state.specs.declared.KernelEvent.the-variants.{Fill}
 use Rattle.state.specs.declared.KernelState.{KernelState}
+use Rattle.state.specs.declared.Seqs.{Seqs}
 use Rattle.models.specs.Rules.{ruleGate}
 use Rattle.models.specs.declared.gate.Gated.{Gated}
 use Rattle.models.specs.declared.gate.Gated.the-variants.{Fail, Done}
 use Rattle.rules.specs.Run as rules
-use Rattle.rules.specs.Report.{pushDelivery, reportAt, reported, queueDelivery}
+use Rattle.rules.specs.Report.{reportAt, reported, queueDelivery}
 use Rattle.rules.specs.Messages.{removeExpiry, await, awaitMarked}
-use Rattle.rules.specs.Matching.{matches, fillLots, gateFilled, filledBy, recordAt, fillKind, fillRecord, fillReport, fillCounted, fillEvent, fillAt, no-fill, fills, fails, fillsOf, fillsAt, filling, matchAt, matchFrom, leave, terminalAt, sweepFrom, gateMarked}
-use Rattle.rules.proofs.HeldMatching.{There, fills-there}
-use Rattle.reports.specs.Log.{logAt, appendEvent, appendEvents, StepResult, expected, actual}
-use Rattle.reports.specs.Report.{withReport, reportedIn}
-use Rattle.reports.specs.declared.Outcome.the-variants.{Ran, Halt}
+use Rattle.rules.specs.Matching.{matches, fillLots, gateFilled, filledBy, recordAt, fillKind, fillRecord, fillReport, fillCounted, fillEvent, fillAt, no-fill, fills, fails, fillsOf, leave, terminalAt, sweepFrom, gateMarked}
+use Rattle.rules.proofs.Kept.{KeptAt, Kept, raised-kept, halt-kept, pick-kept, some-kept, word-kept}
+use Rattle.rules.proofs.Steps.{stamp-then, delayed-kept}
+use Rattle.reports.specs.Log.{Log, logAt, appendEvent, appendEvents, StepResult, expected, actual}
+use Rattle.reports.specs.Report.{withReport, reportedIn, withVenue}
+use Rattle.reports.specs.declared.Outcome.{Outcome}
+use Rattle.reports.specs.declared.Outcome.the-variants.{Ran, Left, Halt, Ended}
 use Rattle.reports.specs.declared.Step.{Step}
+use Rattle.reports.specs.declared.Venue.{Venue}
 use Rattle.reports.specs.declared.report.Reported.{Reported}
 use Rattle.reports.specs.declared.report.Stamped.{Stamped}
-use Rattle.reports.proofs.ReportExits.{push-of}
-use Rattle.reports.proofs.Then.{expected-ran, Stopped, then-ran, then-stop, then-on, Stamps, stamp-stop, stamp-on, fits-none, fits-some}
-use Rattle.matching.specs.Matching.{withVenue, filledIn, withMatched, matchedIn, concerns, busy, ruleFills, withSwept, sweptIn}
+use Rattle.reports.proofs.ReportExits.{reportedBy, tell-stop, tell-full, tell-in}
+use Rattle.reports.proofs.Then.{expected-ran, Stopped, then-ran, then-stop, then-on, state-is, ran-too, Stamps, stamp-stop, stamp-on, fits-none, fits-some}
+use Rattle.matching.specs.Matching.{filledIn, fillDelivery, joined, filledOrderIn, looksAt, anyTerminal, withSwept, sweptIn}
 use Rattle.matching.specs.declared.Filled.{Filled}
-use Rattle.matching.specs.declared.Lots.{Lots}
-use Rattle.matching.specs.declared.Lots.the-variants as lots
+use Rattle.matching.specs.declared.FilledOrder.{FilledOrder}
 use Rattle.matching.specs.declared.Swept.{Swept}
-use Rattle.matching.specs.declared.Venue.{Venue}
-use Rattle.matching.proofs.Idle.{match-above, sweep-above}
+use Rattle.matching.proofs.Idle.{sweep-above}
 
 -- ---- a fill: the order after it, and its kind
-module _ (o : VenueOrder) (n rest : ℕ) (e : rest ≡ remaining o) where
-  pub filled-all : (r : VenueOrder) → n ≡ rest → r ≡ inState o order.Filled
-      → record { id = r .id; side = r .side; price = r .price; qty = r .qty; filled = o .filled + n; state = r .state; «active_after_ns» = r .«active_after_ns»; «cancel_inflight» = r .«cancel_inflight» } ≡ filledBy n o
-  unfolding filledBy pick
-  filled-all r h k = rw (eq-eqb n (remaining o) (h ∙ e), k)
+-- the lots that are filled do not wrap, where no more than remain are filled
+unwrapped : (o : VenueOrder) (n sum : ℕ) → o .filled < 18446744073709551616 → o .qty < 18446744073709551616 → sum ≡ (o .filled + n) % 2 ^ 64 → n ≤ remaining o → sum ≡ o .filled + n
+unwrapped o n sum f q e h = e ∙ mod-eq-of-lt (omega arith)
 
-  pub filled-some : (n ≡ rest → ⊥)
-      → record { id = o .id; side = o .side; price = o .price; qty = o .qty; filled = o .filled + n; state = o .state; «active_after_ns» = o .«active_after_ns»; «cancel_inflight» = o .«cancel_inflight» } ≡ filledBy n o
-  unfolding filledBy pick
-  filled-some h = rw (ne-eqb n (remaining o) (λ k. h (k ∙ sym e)))
+module _ (o : VenueOrder) (n rest : ℕ) (e : rest ≡ remaining o) where
+  module _ (sum : ℕ) (f : o .filled < 18446744073709551616) (q : o .qty < 18446744073709551616) (es : sum ≡ (o .filled + n) % 2 ^ 64) where
+    pub filled-all : (r : VenueOrder) → n ≡ rest → r ≡ inState o order.Filled → n ≤ remaining o
+        → record { id = r .id; side = r .side; price = r .price; qty = r .qty; filled = sum; state = r .state; «active_after_ns» = r .«active_after_ns»; «cancel_inflight» = r .«cancel_inflight» } ≡ filledBy n o
+    unfolding filledBy pick
+    filled-all r h k z = rw (unwrapped o n sum f q es z, eq-eqb n (remaining o) (h ∙ e), k)
+
+    pub filled-some : (n ≡ rest → ⊥) → n ≤ remaining o
+        → record { id = o .id; side = o .side; price = o .price; qty = o .qty; filled = sum; state = o .state; «active_after_ns» = o .«active_after_ns»; «cancel_inflight» = o .«cancel_inflight» } ≡ filledBy n o
+    unfolding filledBy pick
+    filled-some h z = rw (unwrapped o n sum f q es z, ne-eqb n (remaining o) (λ k. h (k ∙ sym e)))
 
   pub kind-all : n ≡ rest → exec.Fill ≡ fillKind n o
   unfolding pick
@@ -82,6 +95,17 @@ module _ (o : VenueOrder) (n rest : ℕ) (e : rest ≡ remaining o) where
   pub kind-some : (n ≡ rest → ⊥) → exec.PartialFill ≡ fillKind n o
   unfolding pick
   kind-some h = rw (ne-eqb n (remaining o) (λ k. h (k ∙ sym e)))
+
+-- ---- its report, and its delivery
+pub report-is : (now seq : ℕ) (o : VenueOrder) (n : ℕ) (filled : VenueOrder) → (n ≤ remaining o → filled ≡ filledBy n o) → (kind : ExecKind) → kind ≡ fillKind n o
+    → (r : ReportRec) → r ≡ reportAt now seq filled kind (o .«cancel_inflight») n → n ≤ remaining o → r ≡ reportAt now seq (filledBy n o) (fillKind n o) (o .«cancel_inflight») n
+report-is now seq o n filled ef kind ek r er z = rw (← ef z, ← ek) er
+
+pub delivery-is : (c : Clock) (q : Seqs) (o : VenueOrder) (n : ℕ) (report : ReportRec)
+    → (n ≤ remaining o → report ≡ reportAt (c .«now_ns») (q .«stamp_seq») (filledBy n o) (fillKind n o) (o .«cancel_inflight») n)
+    → (rec : FillRec) → rec ≡ recordAt (c .«now_ns») (q .«next_exec_id») o n
+    → n ≤ remaining o → record { «at_ns» = c .«last_delivery_ns»; report = report; fill = fill.Some rec } ≡ fillDelivery c q o n
+delivery-is c q o n report er rec ec z = rw (er z, ec)
 
 -- ---- a fill up to its event
 -- what `stopped` gives
@@ -139,156 +163,135 @@ module _ (w : List ℕ) (raised : ℕ) (o : VenueOrder) (n : ℕ) (v : Venue) (a
               stamp-on w raised (withVenue s v) _ a e h (rw (← eg, g, fits-some (o .price * 2) x (sym ed ∙ d), ← ex, j, ← ec, c, ← er, ← em))
 
 -- ---- behind the event: the order stored, the report and the delivery
--- the state with the filled order stored
-abbrev stored : ℕ → VenueOrder → KernelState → KernelState
-stored i o u = withOrders u (ordersOf (storeAt 8 i o (ordersRow (u .orders)) .list))
+-- a list with an entry stored at its own place is that list
+store-same : {A : Type 0} (cap : ℕ) (d : A) (i : ℕ) (r : Row A) (v : A) → entryAt cap d i r ≡ some v → storeAt cap i v r .list ≡ r
+unfolding storeAt
+store-same {A} cap d i r v e =
+    let P : Put A → Type 0 = λ p. p .list ≡ r in
+    pick-case P (leb (r .count) cap) _ _ (λ a. pick-case P (ltb i (r .count)) _ _
+    (λ b. let h : some (getD (r .slots) i d) ≡ some v = entry-in cap r d i (leb-true _ _ a) (ltb-true _ _ b) ∙ e in let g : getD (r .slots) i d ≡ v = cc in rw (← g, set-getD (r .slots) i d))
+    (λ _. refl)) (λ _. refl)
 
--- s is the state at the stamp
+-- nothing joins where the fill stopped
+pub joined-stop : (o : Outcome) → Stopped o → (d : Delivery) (l : Deliveries) → joined o d l ≡ l
+joined-stop Ran m d l = absurd (⊎-elim (λ z. omega arith) (λ y. ⊎-elim (λ z. omega arith) (λ z. omega arith) y) m)
+joined-stop Left m d l = refl
+joined-stop (Halt h) m d l = refl
+joined-stop Ended m d l = refl
+
+not-ran : (o : Outcome) → Stopped o → o ≡ Ran → ⊥
+not-ran o m e = ⊎-elim (λ z. omega arith) (λ y. ⊎-elim (λ z. omega arith) (λ z. omega arith) y) (subst Stopped e m)
+
+-- a step that ran has what the rules keep
+kept-on : (P : KernelState → Type 0) (l : Log) (r : rules.Run) (b : Step) (w : List ℕ) → actual b w ≡ expected l r → b .outcome ≡ Ran → Kept (λ _. Unit {0}) (λ _ _. Unit {0}) P r → P (b .state)
+kept-on P l r b w e h k = subst P (sym (state-is l r b w e)) (subst (λ (o : rules.Outcome). KeptAt (λ _. Unit {0}) (λ _ _. Unit {0}) P o (r .state)) (ran-too l r b w e h) (k .holds))
+
+-- the time of the clock stays
+abbrev SameTime : KernelState → KernelState → Type 0
+SameTime s t = t .clock .«now_ns» ≡ s .clock .«now_ns»
+
+event-time : (o : VenueOrder) (n : ℕ) (s : KernelState) → Kept (λ _. Unit {0}) (λ _ _. Unit {0}) (SameTime s) (fillEvent o n s)
+unfolding fillEvent fillCounted
+event-time o n s = stamp-then s _ (λ k. some-kept _ (λ g. pick-kept _ (word-kept _ (λ e. word-kept _ (λ f. raised-kept refl) halt-kept) halt-kept) halt-kept) halt-kept)
+
+report-time : (c : Config) (r : ReportRec) (s : KernelState) → Kept (λ _. Unit {0}) (λ _ _. Unit {0}) (SameTime s) (reported c r s)
+unfolding reported
+report-time c r s = delayed-kept c _ _ s _ (λ at rng. raised-kept refl)
+
+-- s is the state at the stamp, t the one behind the event
 abbrev reporting : Config → ℕ → VenueOrder → ℕ → KernelState → KernelState → rules.Run
-reporting c i o n s u = queueDelivery c (fillReport s o n) (fill.Some (fillRecord s o n)) (stored i (filledBy n o) u)
+reporting c i o n s t = queueDelivery c (fillReport s o n) (fill.Some (fillRecord s o n)) (withOrders t (ordersOf (storeAt 8 i (filledBy n o) (ordersRow (t .orders)) .list)))
 
--- ---- what a row fills at a place
-module _ (mode : FillMode) (row : KernelTick) (os : Orders) (i : ℕ) (got : MaybeOrder) (e : orderIn got ≡ entryAt 8 blankOrder i (ordersRow os)) where
-  pub lots-empty : got ≡ found.None → no-fill ≡ fillsAt mode row i os
-  unfolding fillsAt fillsOf onSome
-  lots-empty h = rw (← e, h)
+-- a is what the fill left
+module _ (w w1 : List ℕ) (raised : ℕ) (cfg : Config) (o : VenueOrder) (n : ℕ) (v : Venue) (waiting : ℕ)
+    (a : Filled) (ea : (s : KernelState) → actual (filledIn s a) w1 ≡ expected (logAt w raised) (fillEvent o n (withVenue s v))) where
+  -- what `fill_order` is to leave
+  abbrev Filling : List ℕ → FilledOrder → Type 0
+  Filling w2 r =
+      ((s : KernelState) (i : ℕ) → waiting ≡ s .deliveries .count → entryAt 8 blankOrder i (ordersRow (s .orders)) ≡ some o → n ≤ remaining o
+      → actual (filledOrderIn s i o n (v .seqs) r) w2 ≡ expected (logAt w raised) (fillAt cfg i o n (withVenue s v)))
+      × (r .outcome ≡ Ran → waiting < 24)
 
-  module _ (o : VenueOrder) (h : got ≡ found.Some o) (t : Bool) (em : t ≡ matches row o) where
-    pub lots-unmatched : t ≡ false → no-fill ≡ fillsAt mode row i os
-    unfolding fillsAt fillsOf onSome pick
-    lots-unmatched m = rw (← e, h, ← em, m)
+  pub order-unfilled : Stopped (a .outcome) → Filling w1 (record { outcome = a .outcome; venue = a .venue; order = o; raised = a .raised })
+  unfolding fillAt
+  order-unfilled m = (
+    λ s i k e z. rw (store-same 8 blankOrder i (ordersRow (s .orders)) o e, joined-stop (a .outcome) m (fillDelivery (a .venue .clock) (v .seqs) o n) (s .deliveries))
+        (then-stop (logAt w raised) _ (reporting cfg i o n (withVenue s v)) (filledIn s a) w1 (ea s) m),
+    λ h. absurd (not-ran (a .outcome) m h),
+  )
 
-    module _ (m : t ≡ true) (ls : MaybeU64) (el : ls ≡ fillLots mode row o) where
-      pub lots-fail : ls ≡ u64.None → fails ≡ fillsAt mode row i os
-      unfolding fillsAt fillsOf onSome pick onWord
-      lots-fail k = rw (← e, h, ← em, m, ← el, k)
+  -- the fill ran: b is what its report left
+  module _ (k : a .outcome ≡ Ran) (filled : VenueOrder) (ef : n ≤ remaining o → filled ≡ filledBy n o)
+      (report : ReportRec) (er : n ≤ remaining o → report ≡ reportAt (v .clock .«now_ns») (v .seqs .«stamp_seq») (filledBy n o) (fillKind n o) (o .«cancel_inflight») n)
+      (w2 : List ℕ) (b : Reported) (eb : (s : KernelState) → actual (reportedIn s b) w2 ≡ expected (logAt w1 (a .raised)) (reported cfg report (withReport s (a .venue .«rng_latency») (a .venue .clock)))) where
+    -- the state with the order stored
+    abbrev stored : ℕ → KernelState → KernelState
+    stored i s = withOrders s (ordersOf (storeAt 8 i filled (ordersRow (s .orders)) .list))
 
-      pub lots-zero : (n : ℕ) → ls ≡ u64.Some n → n ≡ 0 → no-fill ≡ fillsAt mode row i os
-      unfolding fillsAt fillsOf onSome pick onWord
-      lots-zero n k z = rw (← e, h, ← em, m, ← el, k, eq-eqb n 0 z)
+    abbrev record-of : FillRec
+    record-of = recordAt (v .clock .«now_ns») (v .seqs .«next_exec_id») o n
 
-      pub lots-take : (n : ℕ) → ls ≡ u64.Some n → (n ≡ 0 → ⊥) → fills o n ≡ fillsAt mode row i os
-      unfolding fillsAt fillsOf onSome pick onWord
-      lots-take n k z = rw (← e, h, ← em, m, ← el, k, ne-eqb n 0 z)
+    -- what the report and its delivery leave is what the whole leaves
+    reports : (s : KernelState) (i : ℕ) → n ≤ remaining o → {x : StepResult} → x ≡ expected (logAt w1 (a .raised)) (queueDelivery cfg report (fill.Some record-of) (withVenue (stored i s) (a .venue)))
+        → x ≡ expected (logAt w raised) (fillAt cfg i o n (withVenue s v))
+    unfolding fillAt fillReport
+    reports s i z p = then-on (logAt w raised) _ (reporting cfg i o n (withVenue s v)) (filledIn s a) w1 (ea s) k (rw (← er z, ← ef z) p)
 
--- ---- the pass over the orders
--- what is filled is the live order at that place, and no more of it than remains
-module _ (mode : FillMode) (row : KernelTick) (os : Orders) (i : ℕ) (r : Lots) (e : ruleFills r ≡ fillsAt mode row i os) where
-  pub take-there : (o : VenueOrder) (n : ℕ) → r ≡ lots.Take o n → There i os (fills o n)
-  take-there o n h = subst (There i os) (sym e ∙ ap ruleFills h) (fills-there mode row i os)
+    pub order-unreported : Stopped (b .outcome) → Filling w2 (record { outcome = b .outcome; venue = reportedBy (a .venue) b; order = filled; raised = b .raised })
+    order-unreported m = (
+      λ s i q e z. reports s i z (rw (joined-stop (b .outcome) m (fillDelivery (b .clock) (v .seqs) o n) (s .deliveries))
+          (tell-stop w1 w2 (a .raised) cfg report (fill.Some record-of) (a .venue) waiting b eb m (stored i s) q)),
+      λ h. absurd (not-ran (b .outcome) m h),
+    )
 
--- a turn of the pass: q orders are left, j behind this one
-module _ (w : List ℕ) (raised : ℕ) (cfg : Config) (row : KernelTick) (i : ℕ) (v : Venue) (os : Orders) (ds : Deliveries) (q j : ℕ) (hq : q ≡ suc j)
-    (r : Lots) (e : ruleFills r ≡ fillsAt (cfg .fill) row i os) where
-  turn-is : (s : KernelState) → matchFrom cfg row q i (withMatched s v os ds) ≡ rules.andThen (filling cfg i (withMatched s v os ds) (ruleFills r)) (matchFrom cfg row j (i + 1))
-  unfolding matchFrom matchAt
-  turn-is s = rw (hq, ← e)
+    module _ (l : b .outcome ≡ Ran) where
+      pub order-full : 24 ≤ waiting → Filling w2 (record { outcome = Halt CounterOverflow; venue = reportedBy (a .venue) b; order = filled; raised = b .raised })
+      order-full f = (
+        λ s i q e z. reports s i z (tell-full w1 w2 (a .raised) cfg report (fill.Some record-of) (a .venue) waiting b eb l f (stored i s) q),
+        λ h. let y : _≡_ {A = ℕ} 0 1 = cc in absurd (omega arith),
+      )
 
-  pub match-past : r ≡ lots.Nothing → (s : KernelState)
-      → expected (logAt w raised) (matchFrom cfg row j (i + 1) (withMatched s v os ds)) ≡ expected (logAt w raised) (matchFrom cfg row q i (withMatched s v os ds))
-  unfolding rules.andThen
-  match-past h s = rw (turn-is s, h)
+      time-is : (s : KernelState) → b .clock .«now_ns» ≡ v .clock .«now_ns»
+      time-is s =
+          kept-on (SameTime (withVenue s (a .venue))) (logAt w1 (a .raised)) _ (reportedIn (withVenue s (a .venue)) b) w2 (eb (withVenue s (a .venue))) l (report-time cfg report (withVenue s (a .venue)))
+          ∙ kept-on (SameTime (withVenue s v)) (logAt w raised) _ (filledIn s a) w1 (ea s) k (event-time o n (withVenue s v))
 
-  pub match-fail : r ≡ lots.Fail → (s : KernelState)
-      → actual (matchedIn s (record { outcome = Halt CounterOverflow; venue = v; orders = os; deliveries = ds; raised = raised })) w ≡ expected (logAt w raised) (matchFrom cfg row q i (withMatched s v os ds))
-  unfolding rules.andThen expected appendEvents
-  match-fail h s = rw (turn-is s, h)
+      sent-is : (s : KernelState) → n ≤ remaining o → fillDelivery (b .clock) (v .seqs) o n ≡ record { «at_ns» = b .clock .«last_delivery_ns»; report = report; fill = fill.Some record-of }
+      sent-is s z = rw (time-is s, er z)
 
-  -- a fill: a is what it left
-  module _ (o : VenueOrder) (n : ℕ) (h : r ≡ lots.Take o n) (w1 : List ℕ) (a : Filled)
-      (ea : (s : KernelState) → actual (filledIn s a) w1 ≡ expected (logAt w raised) (fillEvent o n (withVenue s v))) where
-    -- the state at the stamp
-    abbrev start : KernelState → KernelState
-    start s = withMatched s v os ds
+      pub order-in : waiting < 24 → Filling w2 (record { outcome = Ran; venue = reportedBy (a .venue) b; order = filled; raised = b .raised })
+      order-in f = (
+        λ s i q e z. reports s i z (rw (sent-is s z) (tell-in w1 w2 (a .raised) cfg report (fill.Some record-of) (a .venue) waiting b eb l f (stored i s) q)),
+        λ h. f,
+      )
 
-    take-is : (s : KernelState) → matchFrom cfg row q i (start s) ≡ rules.andThen (fillAt cfg i o n (start s)) (matchFrom cfg row j (i + 1))
-    take-is s = turn-is s ∙ rw h
+-- ---- what a row fills of an order
+module _ (mode : FillMode) (row : KernelTick) (o : VenueOrder) (t : Bool) (em : t ≡ matches row o) where
+  pub lots-unmatched : t ≡ false → no-fill ≡ fillsOf mode row o
+  unfolding fillsOf pick
+  lots-unmatched m = rw (← em, m)
 
-    -- what stops the fill stops the pass; where it ran, the pass goes on
-    stops : (s : KernelState) (b : Step) (w2 : List ℕ) → Stopped (b .outcome) → actual b w2 ≡ expected (logAt w raised) (fillAt cfg i o n (start s)) → actual b w2 ≡ expected (logAt w raised) (matchFrom cfg row q i (start s))
-    stops s b w2 m p = rw (take-is s) (then-stop (logAt w raised) _ (matchFrom cfg row j (i + 1)) b w2 p m)
+  module _ (m : t ≡ true) (ls : MaybeU64) (el : ls ≡ fillLots mode row o) where
+    pub lots-fail : ls ≡ u64.None → fails ≡ fillsOf mode row o
+    unfolding fillsOf pick onWord
+    lots-fail k = rw (← em, m, ← el, k)
 
-    goes-on : (s : KernelState) (b : Step) (w2 : List ℕ) → b .outcome ≡ Ran → actual b w2 ≡ expected (logAt w raised) (fillAt cfg i o n (start s))
-        → expected (logAt w2 (b .raised)) (matchFrom cfg row j (i + 1) (b .state)) ≡ expected (logAt w raised) (matchFrom cfg row q i (start s))
-    goes-on s b w2 k p = rw (take-is s) (sym (then-ran (logAt w raised) _ (matchFrom cfg row j (i + 1)) b w2 p k))
+    pub lots-zero : (n : ℕ) → ls ≡ u64.Some n → n ≡ 0 → no-fill ≡ fillsOf mode row o
+    unfolding fillsOf pick onWord
+    lots-zero n k z = rw (← em, m, ← el, k, eq-eqb n 0 z)
 
-    pub match-stop : Stopped (a .outcome) → (s : KernelState)
-        → actual (matchedIn s (record { outcome = a .outcome; venue = a .venue; orders = os; deliveries = ds; raised = a .raised })) w1 ≡ expected (logAt w raised) (matchFrom cfg row q i (start s))
-    unfolding fillAt
-    match-stop m s =
-        stops s (filledIn (withDeliveries (withOrders s os) ds) a) w1 m
-        (then-stop (logAt w raised) _ (reporting cfg i o n (start s)) (filledIn (withDeliveries (withOrders s os) ds) a) w1 (ea (withDeliveries (withOrders s os) ds)) m)
+    pub lots-take : (n : ℕ) → ls ≡ u64.Some n → (n ≡ 0 → ⊥) → fills o n ≡ fillsOf mode row o
+    unfolding fillsOf pick onWord
+    lots-take n k z = rw (← em, m, ← el, k, ne-eqb n 0 z)
 
-    -- the fill ran: the order is stored, b is what its report left
-    module _ (k : a .outcome ≡ Ran) (filled : VenueOrder) (ef : filled ≡ filledBy n o) (kind : ExecKind) (ek : kind ≡ fillKind n o)
-        (report : ReportRec) (er : report ≡ reportAt (v .clock .«now_ns») (v .seqs .«stamp_seq») filled kind (o .«cancel_inflight») n)
-        (rec : FillRec) (ec : rec ≡ recordAt (v .clock .«now_ns») (v .seqs .«next_exec_id») o n)
-        (w2 : List ℕ) (b : Reported) (eb : (s : KernelState) → actual (reportedIn s b) w2 ≡ expected (logAt w1 (a .raised)) (reported cfg report (withReport s (a .venue .«rng_latency») (a .venue .clock)))) where
-      t : There i os (fills o n)
-      t = take-there (cfg .fill) row os i r e o n h
+-- ---- how many orders the pass looks at
+pub looks-over : (n : ℕ) → 8 < n → 0 ≡ looksAt n
+unfolding looksAt pick
+looks-over n h = rw (lt-leb n 8 h)
 
-      abbrev store : Orders
-      store = record { slots = set (os .slots) i filled; count = os .count }
-
-      abbrev venue : Venue
-      venue = record { «rng_latency» = b .«rng_latency»; clock = b .clock; seqs = a .venue .seqs; gate = a .venue .gate; counters = a .venue .counters }
-
-      -- the state at the report
-      abbrev held : KernelState → KernelState
-      held s = withMatched s (a .venue) store ds
-
-      reporting-is : (s : KernelState) → reporting cfg i o n (start s) (withMatched s (a .venue) os ds) ≡ rules.andThen (reported cfg report (held s)) (push-of report (fill.Some rec))
-      unfolding queueDelivery fillReport
-      reporting-is s = rw (← ef, ← ek, ← er, ← ec, ← (store-in 8 (ordersRow os) filled i (t .1) (t .2)))
-
-      -- the rest of the fill is the report, then the push
-      reports : (s : KernelState) {x : StepResult} → x ≡ expected (logAt w1 (a .raised)) (rules.andThen (reported cfg report (held s)) (push-of report (fill.Some rec)))
-          → x ≡ expected (logAt w raised) (fillAt cfg i o n (start s))
-      unfolding fillAt
-      reports s p =
-          then-on (logAt w raised) _ (reporting cfg i o n (start s)) (filledIn (withDeliveries (withOrders s os) ds) a) w1 (ea (withDeliveries (withOrders s os) ds)) k
-          (p ∙ ap (expected (logAt w1 (a .raised))) (sym (reporting-is s)))
-
-      pub match-unreported : Stopped (b .outcome) → (s : KernelState)
-          → actual (matchedIn s (record { outcome = b .outcome; venue = venue; orders = store; deliveries = ds; raised = b .raised })) w2 ≡ expected (logAt w raised) (matchFrom cfg row q i (start s))
-      match-unreported m s =
-          stops s (reportedIn (held s) b) w2 m
-          (reports s (then-stop (logAt w1 (a .raised)) _ (push-of report (fill.Some rec)) (reportedIn (held s) b) w2 (eb (held s)) m))
-
-      -- the report ran: the delivery goes in, or the list is full
-      module _ (l : b .outcome ≡ Ran) where
-        pushes : (s : KernelState) {x : StepResult} → x ≡ expected (logAt w2 (b .raised)) (push-of report (fill.Some rec) (withMatched s venue store ds)) → x ≡ expected (logAt w raised) (fillAt cfg i o n (start s))
-        pushes s p = reports s (then-on (logAt w1 (a .raised)) _ (push-of report (fill.Some rec)) (reportedIn (held s) b) w2 (eb (held s)) l p)
-
-        pub match-full : 24 ≤ ds .count → (s : KernelState)
-            → actual (matchedIn s (record { outcome = Halt CounterOverflow; venue = venue; orders = store; deliveries = ds; raised = b .raised })) w2 ≡ expected (logAt w raised) (matchFrom cfg row q i (start s))
-        match-full f s =
-            stops s (matchedIn s (record { outcome = Halt CounterOverflow; venue = venue; orders = store; deliveries = ds; raised = b .raised })) w2 (inr (inl refl))
-            (pushes s (unfold pushDelivery rules.putting pick expected appendEvents in rw (← (put-full 24 (deliveriesRow ds) (ds .count) (record { «at_ns» = b .clock .«last_delivery_ns»; report = report; fill = fill.Some rec }) f))))
-
-        pub match-on : ds .count < 24 → length (ds .slots) ≡ 24 → (s : KernelState)
-            → expected (logAt w2 (b .raised)) (matchFrom cfg row j (i + 1) (withMatched s venue store
-            (record { slots = set (ds .slots) (ds .count) (record { «at_ns» = b .clock .«last_delivery_ns»; report = report; fill = fill.Some rec }); count = ds .count + 1 })))
-            ≡ expected (logAt w raised) (matchFrom cfg row q i (start s))
-        match-on f z s =
-            goes-on s (matchedIn s (record {
-              outcome = Ran;
-              venue = venue;
-              orders = store;
-              deliveries = record { slots = set (ds .slots) (ds .count) (record { «at_ns» = b .clock .«last_delivery_ns»; report = report; fill = fill.Some rec }); count = ds .count + 1 };
-              raised = b .raised;
-            })) w2 refl
-            (pushes s (unfold pushDelivery rules.putting pick expected appendEvents in rw (← (push-in 24 (deliveriesRow ds) (record { «at_ns» = b .clock .«last_delivery_ns»; report = report; fill = fill.Some rec }) f z))))
-
-pub match-end : (w : List ℕ) (raised : ℕ) (cfg : Config) (row : KernelTick) (i : ℕ) (v : Venue) (os : Orders) (ds : Deliveries) (q : ℕ) → q ≡ 0 → (s : KernelState)
-    → actual (matchedIn s (record { outcome = Ran; venue = v; orders = os; deliveries = ds; raised = raised })) w ≡ expected (logAt w raised) (matchFrom cfg row q i (withMatched s v os ds))
-unfolding matchFrom
-match-end w raised cfg row i v os ds q h s = rw h (expected-ran (logAt w raised) (withMatched s v os ds))
-
--- a count above the capacity
-pub match-over : (w : List ℕ) (raised : ℕ) (cfg : Config) (row : KernelTick) (v : Venue) (os : Orders) (ds : Deliveries) (q i : ℕ) → 8 < os .count → (s : KernelState)
-    → actual (matchedIn s (record { outcome = Ran; venue = v; orders = os; deliveries = ds; raised = raised })) w ≡ expected (logAt w raised) (matchFrom cfg row q i (withMatched s v os ds))
-match-over w raised cfg row v os ds q i h s = rw (match-above (withMatched s v os ds) h cfg row q i) (expected-ran (logAt w raised) (withMatched s v os ds))
+pub looks-each : (n : ℕ) → n ≤ 8 → n ≡ looksAt n
+unfolding looksAt pick
+looks-each n h = rw (le-leb n 8 h)
 
 -- ---- a terminal order that leaves
 module _ (os : Orders) (i : ℕ) (got : MaybeOrder) (e : orderIn got ≡ entryAt 8 blankOrder i (ordersRow os)) where
@@ -371,22 +374,12 @@ pub mark-some : (g : GateState) (mid2 : ℕ) → (mid2 ≡ 0 → ⊥) → gateMa
 unfolding gateMarked pick
 mark-some g mid2 h = rw (ne-eqb mid2 0 h)
 
--- ---- an order that the row concerns
-module _ (row : KernelTick) (o : VenueOrder) (t : Bool) (e : t ≡ isTerminal (o .state)) where
-  pub concerns-terminal : t ≡ true → true ≡ concerns row o
-  unfolding concerns pick
-  concerns-terminal h = rw (← e, h)
+-- ---- whether a live order is terminal
+module _ (os : Orders) where
+  pub ends-none : none ≡ foundIn (λ o. isTerminal (o .state)) (live 8 (ordersRow os)) → false ≡ anyTerminal os
+  unfolding anyTerminal onSome
+  ends-none h = rw (← h)
 
-  pub concerns-matched : t ≡ false → (b : Bool) → b ≡ matches row o → b ≡ concerns row o
-  unfolding concerns pick
-  concerns-matched h b k = rw (← e, h) k
-
--- ---- whether the row concerns a live order
-module _ (row : KernelTick) (os : Orders) where
-  pub busy-none : none ≡ foundIn (concerns row) (live 8 (ordersRow os)) → false ≡ busy row os
-  unfolding busy onSome
-  busy-none h = rw (← h)
-
-  pub busy-some : (i : ℕ) → some i ≡ foundIn (concerns row) (live 8 (ordersRow os)) → true ≡ busy row os
-  unfolding busy onSome
-  busy-some i h = rw (← h)
+  pub ends-some : (i : ℕ) → some i ≡ foundIn (λ o. isTerminal (o .state)) (live 8 (ordersRow os)) → true ≡ anyTerminal os
+  unfolding anyTerminal onSome
+  ends-some i h = rw (← h)

@@ -4,11 +4,11 @@ use book::ExecKind;
 use book::FillRec;
 use book::MaybeFill;
 use book::OrderState;
+use book::ReportRec;
 use book::VenueOrder;
 use book::config::Config;
 use book::config::FillMode;
 use book::config::KernelTick;
-use deliveries::Deliveries;
 use messages::remove_expiry;
 use models::fill::fill_lots;
 use models::fill::matches;
@@ -21,35 +21,33 @@ use numbers::words::checked_mul;
 use orders::MaybeOrder;
 use orders::Orders;
 use reports::Outcome;
+use reports::Venue;
 use reports::log::emit;
 use reports::report::report_on;
 use reports::report::stamp;
 use reports::report::status_report;
 use state::Clock;
-use state::Counters;
 use state::GateState;
 use state::HaltReason;
 use state::KernelEvent;
 use state::Seqs;
 ghost use mathlib.Core.Path.{_≡_};
 ghost use mathlib.Core.List.{List};
-ghost use Prim.Native.Nat.{ℕ, _≤_};
-ghost use Rattle.book.specs.Entries.{remaining};
+ghost use mathlib.Core.Option.{some};
+ghost use Prim.Native.Nat.{ℕ, _≤_, _<_};
+ghost use Rattle.lists.specs.Lists.{entryAt};
+ghost use Rattle.book.specs.Capacities.{ordersCapacity, deliveriesCapacity};
+ghost use Rattle.book.specs.Entries.{blankOrder, remaining};
+ghost use Rattle.orders.specs.Rows.{ordersRow};
 ghost use Rattle.state.specs.declared.KernelState.{KernelState};
 ghost use Rattle.state.specs.With.{withOrders};
 ghost use Rattle.rules.specs.Run.{haltAt};
-ghost use Rattle.rules.specs.Matching.{filledBy, recordAt, fillKind, fillEvent, fillsAt, matchFrom, leave, terminalAt, sweepFrom, gateMarked};
+ghost use Rattle.rules.specs.Report.{reportAt};
+ghost use Rattle.rules.specs.Matching.{filledBy, recordAt, fillKind, fillEvent, fillAt, fillsOf, leave, terminalAt, sweepFrom, gateMarked};
 ghost use Rattle.reports.specs.Log.{logAt, expected, actual};
-ghost use Rattle.matching.specs.Matching.{withVenue, filledIn, ruleFills, withMatched, matchedIn, concerns, busy, sweptIn, withSwept};
-
-// What a fill changes of the state beside the two lists.
-pub struct Venue {
-    pub rng_latency: u64,
-    pub clock: Clock,
-    pub seqs: Seqs,
-    pub gate: GateState,
-    pub counters: Counters,
-}
+ghost use Rattle.reports.specs.Report.{withVenue};
+ghost use Rattle.reports.specs.declared.Outcome.the-variants.{Ran};
+ghost use Rattle.matching.specs.Matching.{filledIn, fillDelivery, filledOrderIn, ruleFills, looksAt, anyTerminal, sweptIn, withSwept};
 
 // A fill up to its event.
 pub struct Filled {
@@ -58,16 +56,15 @@ pub struct Filled {
     pub raised: u64,
 }
 
-// What a match pass changes of the state.
-pub struct Matched {
+// A fill with its report: the order as it is to be stored. Its delivery has room where it ran; the caller puts it behind those that wait.
+pub struct FilledOrder {
     pub outcome: Outcome,
     pub venue: Venue,
-    pub orders: Orders,
-    pub deliveries: Deliveries,
+    pub order: VenueOrder,
     pub raised: u64,
 }
 
-// The lots that a row fills at a place: none, so many of the order there, or the halt of the queue rule.
+// The lots that a row fills of an order: none, so many, or the halt of the queue rule.
 pub enum Lots {
     Nothing,
     Take(VenueOrder, u64),
@@ -82,19 +79,19 @@ pub struct Swept {
     pub awaiting: Orders,
 }
 
-// The order after a fill, which is Filled where nothing remains.
+// The order after a fill, which is Filled where nothing remains. A fill is never above the lots that remain: the sum does not wrap.
 fn filled_by(order: VenueOrder, lots: u64) -> VenueOrder
-    requires { ⌜ lots ≤ remaining order ⌝ }
-    ensures { λ r. ⌜ r ≡ filledBy lots order ⌝ }
+    ensures { λ r. ⌜ (lots ≤ remaining order → r ≡ filledBy lots order) ⌝ }
 {
     let left = order.remaining();
+    let sum = std::num::wrapping_add_u64(order.filled, lots);
     if lots == left {
         let mut next = order.in_state(OrderState::Filled);
-        next.filled = order.filled + lots;
+        next.filled = sum;
         return next;
     }
     let mut next = order;
-    next.filled = order.filled + lots;
+    next.filled = sum;
     next
 }
 
@@ -120,6 +117,28 @@ fn fill_record(now_ns: u64, exec_id: u64, order: VenueOrder, lots: u64) -> FillR
         side,
         price: order.price,
         qty: lots,
+    }
+}
+
+// The report of a fill, by the numbers at its stamp.
+fn fill_report(now_ns: u64, seq: u64, order: VenueOrder, lots: u64) -> ReportRec
+    ensures { λ r. ⌜ (lots ≤ remaining order → r ≡ reportAt «now_ns» seq (filledBy lots order) (fillKind lots order) (order .«cancel_inflight») lots) ⌝ }
+{
+    let filled = filled_by(order, lots);
+    let kind = fill_kind(order, lots);
+    status_report(now_ns, seq, filled, kind, order.cancel_inflight, lots)
+}
+
+// The delivery of a fill: the clock after its report, and the sequence numbers at its stamp.
+pub fn fill_delivery(clock: Clock, before: Seqs, order: VenueOrder, lots: u64) -> Delivery
+    ensures { λ r. ⌜ (lots ≤ remaining order → r ≡ fillDelivery clock before order lots) ⌝ }
+{
+    let report = fill_report(clock.now_ns, before.stamp_seq, order, lots);
+    let fill = fill_record(clock.now_ns, before.next_exec_id, order, lots);
+    Delivery {
+        at_ns: clock.last_delivery_ns,
+        report,
+        fill: MaybeFill::Some(fill),
     }
 }
 
@@ -181,14 +200,67 @@ fn fill_at(log: &mut [u64], raised: u64, order: VenueOrder, lots: u64, v: Venue)
     }
 }
 
-// What the row fills of the order at a place.
-fn lots_at(mode: FillMode, row: KernelTick, orders: Orders, index: usize) -> Lots
-    ensures { λ r. ⌜ ruleFills r ≡ fillsAt mode row index orders ⌝ }
+// A fill, then the order stored and its report. `waiting` deliveries are before its own.
+pub fn fill_order(
+    log: &mut [u64],
+    raised: u64,
+    cfg: Config,
+    order: VenueOrder,
+    lots: u64,
+    venue: Venue,
+    waiting: usize,
+) -> FilledOrder
+    ensures { λ r. ⌜ ((s : KernelState) (i : ℕ) → waiting ≡ s .deliveries .count → entryAt ordersCapacity blankOrder i (ordersRow (s .orders)) ≡ some order → lots ≤ remaining order → actual (filledOrderIn s i order lots (venue .seqs) r) (now (log .exit)) ≡ expected (logAt (now (log .entry)) raised) (fillAt cfg i order lots (withVenue s venue))) × (r .outcome ≡ Ran → waiting < deliveriesCapacity) ⌝ }
 {
-    let got = orders.get(index);
-    let MaybeOrder::Some(order) = got else {
-        return Lots::Nothing;
+    let before = venue.seqs;
+    let now_ns = venue.clock.now_ns;
+    let a = fill_at(log, raised, order, lots, venue);
+    let mut v = a.venue;
+    let o = a.outcome;
+    let Outcome::Ran = o else {
+        return FilledOrder {
+            outcome: o,
+            venue: v,
+            order,
+            raised: a.raised,
+        };
     };
+    let filled = filled_by(order, lots);
+    let report = fill_report(now_ns, before.stamp_seq, order, lots);
+    let clock = v.clock;
+    let q = report_on(log, a.raised, cfg, report, v.rng_latency, clock);
+    let c = q.clock;
+    v.rng_latency = q.rng_latency;
+    v.clock = c;
+    let p = q.outcome;
+    let Outcome::Ran = p else {
+        return FilledOrder {
+            outcome: p,
+            venue: v,
+            order: filled,
+            raised: q.raised,
+        };
+    };
+    if waiting >= deliveries::CAPACITY {
+        return FilledOrder {
+            outcome: Outcome::Halt(HaltReason::CounterOverflow),
+            venue: v,
+            order: filled,
+            raised: q.raised,
+        };
+    }
+    FilledOrder {
+        outcome: Outcome::Ran,
+        venue: v,
+        order: filled,
+        raised: q.raised,
+    }
+}
+
+// What the row fills of an order.
+pub fn lots_of(mode: FillMode, row: KernelTick, order: VenueOrder) -> Lots
+    ensures { λ r. ⌜ ruleFills r ≡ fillsOf mode row order ⌝ }
+{
     if !matches(row, order) {
         return Lots::Nothing;
     }
@@ -202,100 +274,14 @@ fn lots_at(mode: FillMode, row: KernelTick, orders: Orders, index: usize) -> Lot
     Lots::Take(order, n)
 }
 
-// The orders in list order. A filled order and its delivery are stored in place: a list that is handed on by value is copied at each fill.
-pub fn match_orders(
-    log: &mut [u64],
-    raised: u64,
-    cfg: Config,
-    row: KernelTick,
-    venue: Venue,
-    orders: Orders,
-    deliveries: Deliveries,
-) -> Matched
-    ensures { λ r. ⌜ ((s : KernelState) → actual (matchedIn s r) (now (log .exit)) ≡ expected (logAt (now (log .entry)) raised) (matchFrom cfg row (orders .count) 0 (withMatched s venue orders deliveries))) ⌝ }
+// How many orders the match pass looks at: all; none where the count is above the capacity.
+pub fn looks(count: usize) -> usize
+    ensures { λ r. ⌜ r ≡ looksAt count ⌝ }
 {
-    let count = orders.count;
     if count > orders::CAPACITY {
-        return Matched {
-            outcome: Outcome::Ran,
-            venue,
-            orders,
-            deliveries,
-            raised,
-        };
+        return 0;
     }
-    let mode = cfg.fill;
-    let mut v = venue;
-    let mut os = orders;
-    let mut ds = deliveries;
-    let mut n = raised;
-    let mut i = 0;
-    let outcome = loop {
-        if i >= count {
-            break Outcome::Ran;
-        }
-        let lots = lots_at(mode, row, os, i);
-        match lots {
-            Lots::Nothing => {
-                i += 1;
-                continue;
-            }
-            Lots::Fail => {
-                break Outcome::Halt(HaltReason::CounterOverflow);
-            }
-            Lots::Take(order, k) => {
-                let before = v.seqs;
-                let now_ns = v.clock.now_ns;
-                let a = fill_at(log, n, order, k, v);
-                v = a.venue;
-                n = a.raised;
-                let o = a.outcome;
-                let Outcome::Ran = o else {
-                    break o;
-                };
-                let filled = filled_by(order, k);
-                os.slots[i] = filled;
-                let kind = fill_kind(order, k);
-                let report = status_report(
-                    now_ns,
-                    before.stamp_seq,
-                    filled,
-                    kind,
-                    order.cancel_inflight,
-                    k,
-                );
-                let clock = v.clock;
-                let q = report_on(log, n, cfg, report, v.rng_latency, clock);
-                let c = q.clock;
-                v.rng_latency = q.rng_latency;
-                v.clock = c;
-                n = q.raised;
-                let p = q.outcome;
-                let Outcome::Ran = p else {
-                    break p;
-                };
-                let at = ds.count;
-                if at >= deliveries::CAPACITY {
-                    break Outcome::Halt(HaltReason::CounterOverflow);
-                }
-                let fill = fill_record(now_ns, before.next_exec_id, order, k);
-                ds.slots[at] = Delivery {
-                    at_ns: c.last_delivery_ns,
-                    report,
-                    fill: MaybeFill::Some(fill),
-                };
-                ds.count = at + 1;
-                i += 1;
-            }
-        }
-    };
-    Matched {
-        outcome,
-        venue: v,
-        orders: os,
-        deliveries: ds,
-        raised: n,
-    }
+    count
 }
 
 fn terminal_at(orders: Orders, index: usize) -> bool
@@ -393,20 +379,9 @@ pub fn sweep(orders: Orders, msgs: Msgs, awaiting: Orders) -> Swept
     }
 }
 
-// Whether a row has anything to do with an order: it is terminal, or it matches.
-fn concerns(row: KernelTick, order: VenueOrder) -> bool
-    ensures { λ r. ⌜ r ≡ concerns row order ⌝ }
-{
-    let state = order.state;
-    if state.is_terminal() {
-        return true;
-    }
-    matches(row, order)
-}
-
-// Whether a row has anything to do with a live order. Where it has not, the pass and the sweep change nothing, and both are skipped.
-pub fn busy(row: KernelTick, orders: Orders) -> bool
-    ensures { λ r. ⌜ r ≡ busy row orders ⌝ }
+// Whether an order of the list is terminal. Where none is, the sweep changes nothing, and is skipped.
+pub fn any_terminal(orders: Orders) -> bool
+    ensures { λ r. ⌜ r ≡ anyTerminal orders ⌝ }
 {
     let list = orders;
     let count = list.count;
@@ -415,7 +390,8 @@ pub fn busy(row: KernelTick, orders: Orders) -> bool
     }
     for i in 0..count {
         let order = list.slots[i];
-        if concerns(row, order) {
+        let state = order.state;
+        if state.is_terminal() {
             return true;
         }
     }

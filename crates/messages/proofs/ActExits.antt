@@ -15,12 +15,10 @@ use Rattle.numbers.specs.declared.MaybeU64.the-variants as u64
 use Rattle.lists.specs.Lists.{popped}
 use Rattle.book.specs.Entries.{blankMsg}
 use Rattle.msgs.specs.Rows.{msgsRow, msgIn, msgsTaken}
-use Rattle.state.specs.With.{withDeliveries}
 use Rattle.book.specs.declared.MsgKind.{MsgKind}
 use Rattle.book.specs.declared.MsgKind.the-variants.{Cancel, Activate, Expire}
 use Rattle.book.specs.declared.VenueMsg.{VenueMsg}
 use Rattle.book.specs.declared.config.Config.{Config}
-use Rattle.deliveries.specs.declared.Deliveries.{Deliveries}
 use Rattle.msgs.specs.declared.MaybeMsg.the-variants as msg
 use Rattle.msgs.specs.declared.Msgs.{Msgs}
 use Rattle.msgs.specs.declared.MsgsTaken.{MsgsTaken}
@@ -31,7 +29,7 @@ use Rattle.state.specs.declared.KernelState.{KernelState}
 use Rattle.rules.specs.Run as rules
 use Rattle.rules.specs.Messages.{valid, activate, activation, acts, applyNextMsg}
 use Rattle.reports.specs.Log.{logAt, StepResult, expected, actual}
-use Rattle.reports.specs.Report.{withVenue, sentTo, toldIn}
+use Rattle.reports.specs.Report.{withVenue, toldIn}
 use Rattle.reports.specs.declared.Venue.{Venue}
 use Rattle.reports.specs.declared.report.Told.{Told}
 use Rattle.reports.proofs.Then.{expected-ran, expected-halt, take-on, take-none}
@@ -41,9 +39,6 @@ use Rattle.messages.specs.declared.Acted.{Acted}
 use Rattle.deeds.specs.declared.Deed.{Deed}
 use Rattle.deeds.specs.declared.Expiry.{Expiry}
 use Rattle.deeds.specs.declared.Expiry.the-variants as expiry
-
-abbrev pub venueOf : KernelState → Venue
-venueOf s = record { «rng_latency» = s .«rng_latency»; clock = s .clock; seqs = s .seqs; gate = s .gate; counters = s .counters }
 
 -- ---- what acts, by the expiry that was tested before
 abbrev tested : Config → MsgKind → Expiry → KernelState → KernelState → rules.Run
@@ -107,16 +102,6 @@ module _ (w : List ℕ) (raised : ℕ) (cfg : Config) (v : Venue) (os : Orders) 
         ∙ leaves s (ed s (ap (λ (y : ℕ). record { orders = os .count; msgs = taken .list .count; awaiting = ws .count; deliveries = y }) n)
         ∙ ap (expected (logAt w raised)) (ap (λ (y : MaybeU64). actsAt cfg (m .kind) y (withVenue (withLists s os (taken .list) ws) v)) ea
         ∙ sym (not-fail x k cfg (m .kind) (withVenue (withLists s os ms ws) v) (withVenue (withLists s os (taken .list) ws) v))))
-
--- ---- the parts put back: a is what they became, d the deliveries
-pub put-back : (w w1 : List ℕ) (raised : ℕ) (cfg : Config) (s : KernelState) (a : Acted)
-    → ((x : KernelState) → s .deliveries .count ≡ x .deliveries .count → actual (actedIn x a) w1 ≡ expected (logAt w raised) (applyNextMsg cfg (withVenue (withLists x (s .orders) (s .msgs) (s .awaiting)) (venueOf s))))
-    → (d : Deliveries) → d ≡ sentTo (a .told .sent) (s .deliveries)
-    → actual (record { outcome = a .told .outcome; state = withDeliveries (withVenue (withLists s (a .orders) (a .msgs) (a .awaiting)) (a .told .venue)) d; raised = a .told .raised }) w1
-    ≡ expected (logAt w raised) (applyNextMsg cfg s)
-put-back w w1 raised cfg s a e d ed =
-    ap (λ (y : Deliveries). actual (record { outcome = a .told .outcome; state = withDeliveries (withVenue (withLists s (a .orders) (a .msgs) (a .awaiting)) (a .told .venue)) y; raised = a .told .raised }) w1) ed
-    ∙ e s refl
 
 -- what was put together
 pub done-as : (w : List ℕ) (s : KernelState) (r q : Acted) → r ≡ q → {x : StepResult} → actual (actedIn s q) w ≡ x → actual (actedIn s r) w ≡ x

@@ -10,21 +10,17 @@ use deeds::expiry_of;
 use deeds::halted;
 use deeds::ran;
 use deeds::time_of;
-use deliveries::Deliveries;
-use deliveries::MaybeDelivery;
 use msgs::MaybeMsg;
 use msgs::Msgs;
 use orders::Orders;
-use reports::Step;
 use reports::Venue;
 use reports::report::Told;
-use state::KernelState;
 ghost use mathlib.Core.Path.{_≡_};
 ghost use Rattle.state.specs.declared.KernelState.{KernelState};
 ghost use Rattle.state.specs.With.{withMsgs};
 ghost use Rattle.rules.specs.Messages.{removeExpiry, applyNextMsg};
 ghost use Rattle.reports.specs.Log.{logAt, expected, actual};
-ghost use Rattle.reports.specs.Report.{withVenue, sentTo};
+ghost use Rattle.reports.specs.Report.{withVenue};
 ghost use Rattle.deeds.specs.Deeds.{editOrders, editAwaiting, editMsgs, withLists};
 ghost use Rattle.messages.specs.Acts.{actedIn};
 
@@ -95,6 +91,7 @@ fn done(told: Told, orders: Orders, msgs: Msgs, awaiting: Orders) -> Acted
     }
 }
 
+// The first message leaves, then acts; `waiting` deliveries are on their way before its own.
 pub fn act(
     log: &mut [u64],
     raised: u64,
@@ -146,75 +143,7 @@ pub fn act(
     done(told, o, m, a)
 }
 
-fn send_to(sent: MaybeDelivery, list: Deliveries) -> Deliveries
-    ensures { λ r. ⌜ r ≡ sentTo sent list ⌝ }
-{
-    match sent {
-        MaybeDelivery::None => list,
-        MaybeDelivery::Some(delivery) => {
-            let put = list.push(delivery);
-            put.list
-        }
-    }
-}
-
-pub fn apply_next_msg(log: &mut [u64], raised: u64, cfg: Config, s: KernelState) -> Step
-    ensures { λ r. ⌜ actual r (now (log .exit)) ≡ expected (logAt (now (log .entry)) raised) (applyNextMsg cfg s) ⌝ }
-{
-    let clock = s.clock;
-    let seqs = s.seqs;
-    let gate = s.gate;
-    let counters = s.counters;
-    let v = Venue {
-        rng_latency: s.rng_latency,
-        clock,
-        seqs,
-        gate,
-        counters,
-    };
-    let orders = s.orders;
-    let msgs = s.msgs;
-    let awaiting = s.awaiting;
-    let deliveries = s.deliveries;
-    let a = act(
-        log,
-        raised,
-        cfg,
-        v,
-        orders,
-        msgs,
-        awaiting,
-        deliveries.count,
-    );
-    let told = a.told;
-    let venue = told.venue;
-    let sent = told.sent;
-    let outcome = told.outcome;
-    let later = venue.clock;
-    let numbers = venue.seqs;
-    let kept = venue.gate;
-    let counted = venue.counters;
-    let o = a.orders;
-    let m = a.msgs;
-    let w = a.awaiting;
-    let d = send_to(sent, deliveries);
-    let mut t = s;
-    t.rng_latency = venue.rng_latency;
-    t.clock = later;
-    t.seqs = numbers;
-    t.gate = kept;
-    t.counters = counted;
-    t.orders = o;
-    t.msgs = m;
-    t.awaiting = w;
-    t.deliveries = d;
-    Step {
-        outcome,
-        state: t,
-        raised: told.raised,
-    }
-}
-
+// The messages without the first expiry of the order.
 pub fn remove_expiry(id: u64, msgs: Msgs) -> Msgs
     ensures { λ r. ⌜ ((s : KernelState) → withMsgs s r ≡ removeExpiry id (withMsgs s msgs)) ⌝ }
 {

@@ -1,6 +1,6 @@
--- The phases: one law for each way out that a path alone does not answer. Assumes nothing.
+-- The phases: one law for each way out that a path alone does not answer, and laws for the caller whose loop runs the phases. Assumes nothing.
 use Prim.Native.Nat.{ℕ, _+_, _/_, _≤_, _<_, max}
-use mathlib.Core.Bool.{true, false}
+use mathlib.Core.Bool.{false}
 use mathlib.Core.List.{List}
 use mathlib.Core.Logic.{inl, inr}
 use mathlib.Core.Option.{Option, none, some}
@@ -12,84 +12,96 @@ use Rattle.numbers.specs.Choice.{pick}
 use Rattle.numbers.specs.Words.{fits, fitting, onWord}
 use Rattle.numbers.specs.declared.MaybeU64.{MaybeU64}
 use Rattle.numbers.specs.declared.MaybeU64.the-variants.{None, Some}
-use Rattle.lists.specs.Lists.{onSome, pushed, popped}
-use Rattle.lists.proofs.Cases.{some-case, pick-case}
-use Rattle.book.specs.Entries.{blankObs}
-use Rattle.observed.specs.Rows.{observedRow, observedPut}
-use Rattle.state.specs.With.{withControl, withClock, withGate, clockNowNs, clockLastObservedNs, controlPhase}
+use Rattle.lists.specs.Lists.{onSome}
+use Rattle.lists.proofs.Exits.{put-full}
+use Rattle.lists.proofs.Room.{room}
+use Rattle.book.specs.Capacities.{observedCapacity}
+use Rattle.observed.specs.Rows.{observedRow}
+use Rattle.state.specs.With.{withControl, withGate, clockNowNs, clockLastObservedNs, controlPhase}
 use Rattle.book.specs.declared.config.Config.{Config}
 use Rattle.book.specs.declared.config.KernelTick.{KernelTick}
-use Rattle.observed.specs.declared.Observed.{Observed}
-use Rattle.observed.specs.declared.ObservedPut.{ObservedPut}
-use Rattle.state.specs.declared.Clock.{Clock}
 use Rattle.state.specs.declared.Control.{Control}
 use Rattle.state.specs.declared.GateState.{GateState}
 use Rattle.state.specs.declared.HaltReason.the-variants.{LedgerOverflow, TimeOverflow, CounterOverflow}
 use Rattle.state.specs.declared.KernelEvent.the-variants.{RowEnd}
 use Rattle.state.specs.declared.KernelState.{KernelState}
+use Rattle.state.specs.declared.Phase.{Phase}
 use Rattle.state.specs.declared.Phase.the-variants.{BeforeMatch, ObsQueued, AwaitDecision, Terminal}
 use Rattle.models.specs.Rules.{ruleDelay}
 use Rattle.models.specs.declared.latency.Arrival.{Arrival}
 use Rattle.rules.specs.Run as rules
 use Rattle.rules.specs.Report.{delay, delayed}
-use Rattle.rules.specs.Matching.{matchFrom, sweep, sweepFrom, gateMarked, matchRow}
-use Rattle.rules.specs.Events.{nextOf, eventTurn, clockTo, weight, truncated, popObservation, runEvents}
+use Rattle.rules.specs.Matching.{matchFrom, sweep, gateMarked, matchRow}
+use Rattle.rules.specs.Events.{clockTo, truncated, runEvents}
 use Rattle.rules.specs.Delivery.{closeData, endOfData}
-use Rattle.rules.specs.Phases.{rowAt, queueObservation, matchPhase, beforeMatch, settleRow, settle, toRow, nextRow, obsQueued, phaseTurn, turns, phases}
+use Rattle.rules.specs.Phases.{rowAt, queueObservation, matchPhase, beforeMatch, settleRow, settle, toRow, nextRow, obsQueued, onPhase, phaseTurn, turns, phases}
+use Rattle.rules.specs.Calls.{isPaused}
 use Rattle.rules.proofs.Cases.{word-case}
-use Rattle.rules.proofs.Falls.{event-falls, walk-last}
 use Rattle.rules.proofs.Fewer.{phase-falls, phases-again, phases-last}
 use Rattle.reports.specs.Log.{Log, logAt, appendEvent, appendEvents, outcomeOf, StepResult, expected, actual}
-use Rattle.walk.specs.Events.{ruleNext}
-use Rattle.phases.specs.Phases.{withObs, obsStepIn, workOn, worked, turnBy, onwardTo}
-use Rattle.matching.specs.Matching.{matchedIn, withSwept, sweptIn}
+use Rattle.reports.specs.Report.{withVenue}
 use Rattle.reports.specs.declared.Outcome.{Outcome}
 use Rattle.reports.specs.declared.Outcome.the-variants.{Ran, Halt}
 use Rattle.reports.specs.declared.Step.{Step}
-use Rattle.walk.specs.declared.Class.{Class}
-use Rattle.walk.specs.declared.Class.the-variants.{Observation}
-use Rattle.walk.specs.declared.Next.{Next}
-use Rattle.walk.specs.declared.Next.the-variants.{Nothing, At}
+use Rattle.reports.specs.declared.Venue.{Venue}
+use Rattle.reports.proofs.Then.{expected-ran, then-ran, then-stop, then-then, Stopped, state-is, ran-too, fits-none, fits-some}
+use Rattle.phases.specs.Phases.{workOn, worked, turnBy, onwardTo, opened, openedIn, obsTimeIn}
 use Rattle.phases.specs.declared.Job.{Job}
 use Rattle.phases.specs.declared.Job.the-variants.{Stop, Fail, First, Row}
+use Rattle.phases.specs.declared.ObsTime.{ObsTime}
 use Rattle.phases.specs.declared.Onward.{Onward}
 use Rattle.phases.specs.declared.Onward.the-variants.{End, To}
 use Rattle.phases.specs.declared.Work.{Work}
 use Rattle.phases.specs.declared.Work.the-variants.{Match, Settle}
-use Rattle.matching.specs.declared.Matched.{Matched}
-use Rattle.matching.specs.declared.Swept.{Swept}
-use Rattle.reports.proofs.Then.{expected-ran, then-ran, then-stop, then-on, Stopped, state-is, ran-too, fits-none, fits-some}
 
--- ---- queue_observation
-module _ (w : List ℕ) (n : ℕ) (cfg : Config) (index : ℕ) (row : KernelTick) (rng : ℕ) (clock : Clock) (observed : Observed) (control : Control)
-    (a : Arrival) (e : ruleDelay a ≡ delay cfg rng (row .«ts_ns») (cfg .«observation_q»)) where
-  pub obs-late : a .time ≡ None → (s : KernelState)
-      → actual (obsStepIn s n (record { outcome = Halt TimeOverflow; «rng_latency» = a .rng; clock = clock; observed = observed; control = control })) w
-      ≡ expected (logAt w n) (queueObservation cfg index row (withObs s rng clock observed control))
-  unfolding queueObservation delayed onWord expected appendEvents
-  obs-late h s = rw (← e, h)
+-- ---- open_row
+-- the venue with its clock at a time, and with another gate
+abbrev venueAt : ℕ → Venue → GateState → Venue
+venueAt now v g = record { «rng_latency» = v .«rng_latency»; clock = clockNowNs (v .clock) now; seqs = v .seqs; gate = g; counters = v .counters }
 
-  module _ (at ready : ℕ) (put : ObservedPut) (h : a .time ≡ Some at) (m : ready ≡ max at (clock .«last_observed_ns»))
-      (p : observedPut put ≡ pushed 16 (record { «ready_ns» = ready; row = index }) (observedRow observed)) where
-    pub obs-full : put .ok ≡ false → (s : KernelState)
-        → actual (obsStepIn s n (record { outcome = Halt CounterOverflow; «rng_latency» = a .rng; clock = clockLastObservedNs clock ready; observed = observed; control = control })) w
-        ≡ expected (logAt w n) (queueObservation cfg index row (withObs s rng clock observed control))
-    unfolding queueObservation delayed onWord rules.putting pick expected appendEvents
-    obs-full o s = rw (← e, h, ← m, ← p, o)
+module _ (row : KernelTick) (v : Venue) (now : ℕ) (m : now ≡ max (row .«ts_ns») (v .clock .«now_ns»)) (sum : MaybeU64) (f : sum ≡ fitting (row .bid + row .ask)) where
+  pub open-past : sum ≡ None → (s : KernelState) (n : ℕ) (w : List ℕ)
+      → actual (openedIn s n (record { outcome = Halt LedgerOverflow; venue = venueAt now v (v .gate) })) w ≡ expected (logAt w n) (opened row (withVenue s v))
+  unfolding opened onWord expected appendEvents
+  open-past g s n w = rw (← m, ← f, g)
 
-    pub obs-in : put .ok ≡ true → (k : Control) → k ≡ controlPhase control ObsQueued → (s : KernelState)
-        → actual (obsStepIn s n (record { outcome = Ran; «rng_latency» = a .rng; clock = clockLastObservedNs clock ready; observed = put .list; control = k })) w
-        ≡ expected (logAt w n) (queueObservation cfg index row (withObs s rng clock observed control))
-    unfolding queueObservation delayed onWord rules.putting pick expected appendEvents
-    obs-in o k q s = rw (← e, h, ← m, ← p, o, q)
+  pub open-marks : (mid2 : ℕ) → sum ≡ Some mid2 → (gate : GateState) → gate ≡ gateMarked mid2 (v .gate) → (s : KernelState) (n : ℕ) (w : List ℕ)
+      → actual (openedIn s n (record { outcome = Ran; venue = venueAt now v gate })) w ≡ expected (logAt w n) (opened row (withVenue s v))
+  unfolding opened onWord expected appendEvents
+  open-marks mid2 g gate eg s n w = rw (← m, ← f, g, ← eg)
 
--- the state with its clock at a time
-abbrev pub clockAt : ℕ → KernelState → KernelState
-clockAt now s = withClock s (clockNowNs (s .clock) now)
+-- ---- observed_at
+-- the venue with its generator moved, and the last observation at a time
+abbrev venueObs : ℕ → ℕ → Venue → Venue
+venueObs rng at v = record { «rng_latency» = rng; clock = clockLastObservedNs (v .clock) at; seqs = v .seqs; gate = v .gate; counters = v .counters }
 
--- the state at the match pass: its clock risen, its gate marked
-abbrev pub marking : KernelState → ℕ → GateState → KernelState
-marking s now g = withGate (clockAt now s) g
+module _ (cfg : Config) (row : KernelTick) (waiting : ℕ) (v : Venue) (control : Control) where
+  -- what the contract says
+  abbrev Timed : ObsTime → Type 0
+  Timed r = ((s : KernelState) (i n : ℕ) (w : List ℕ) → waiting ≡ s .observed .count → actual (obsTimeIn s i n r) w ≡ expected (logAt w n) (queueObservation cfg i row (withControl (withVenue s v) control)))
+      × (r .outcome ≡ Ran → waiting < observedCapacity) × (isPaused (control .phase) ≡ false → isPaused (r .control .phase) ≡ false)
+
+  module _ (a : Arrival) (e : ruleDelay a ≡ delay cfg (v .«rng_latency») (row .«ts_ns») (cfg .«observation_q»)) where
+    pub obs-late : a .time ≡ None → Timed (record { outcome = Halt TimeOverflow; venue = venueObs (a .rng) (v .clock .«last_observed_ns») v; control = control })
+    unfolding queueObservation delayed onWord expected appendEvents
+    obs-late h = (λ s i n w q. rw (← e, h), λ o. let z : _≡_ {A = ℕ} 0 1 = cc in absurd (omega arith), λ p. p)
+
+    module _ (at ready : ℕ) (h : a .time ≡ Some at) (m : ready ≡ max at (v .clock .«last_observed_ns»)) where
+      pub obs-full : observedCapacity ≤ waiting → Timed (record { outcome = Halt CounterOverflow; venue = venueObs (a .rng) ready v; control = control })
+      unfolding queueObservation delayed onWord rules.putting pick expected appendEvents
+      obs-full l = (
+        λ s i n w q. rw (← e, h, ← m, ← (put-full observedCapacity (observedRow (s .observed)) (s .observed .count) (record { «ready_ns» = ready; row = i }) (omega (arith, q)))),
+        λ o. let z : _≡_ {A = ℕ} 0 1 = cc in absurd (omega arith),
+        λ p. p,
+      )
+
+      pub obs-in : waiting < observedCapacity → (k : Control) → k ≡ controlPhase control ObsQueued → Timed (record { outcome = Ran; venue = venueObs (a .rng) ready v; control = k })
+      unfolding queueObservation delayed onWord rules.putting pick expected appendEvents
+      obs-in l k ek = (
+        λ s i n w q. rw (← e, h, ← m, room observedCapacity (observedRow (s .observed)) (record { «ready_ns» = ready; row = i }) (omega (arith, q)), ek),
+        λ o. l,
+        λ p. rw ek,
+      )
 
 -- what a row does with the booked orders: the match pass, then the sweep
 abbrev pub booked : Config → KernelTick → KernelState → rules.Run
@@ -154,7 +166,7 @@ module _ (cfg : Config) (rows : List ℕ) (c : Control) where
     unfolding nextRow pick
     next-on k e s = rw (lt-ltb (c .cursor) (length rows / 5) h, lt-leb (cfg .«s_max») (c .step) k, e)
 
--- ---- run_phases: steps that never run on
+-- ---- the caller: steps that never run on
 abbrev Stops : rules.Run → Type 0
 Stops r = Stopped (outcomeOf (r .outcome))
 
@@ -177,23 +189,7 @@ pub end-stops : (l : Log) (s : KernelState) (a : Step) (w : List ℕ) → actual
 unfolding expected endOfData
 end-stops l s a w e = subst Stopped (sym (ap (λ (x : StepResult). x .outcome) e)) (then-stops _ closeData close-stops)
 
--- an observation that is next is there, so that it leaves the walk
-pop-stops : (cfg : Config) (until : ℕ) (s : KernelState) (t : ℕ) → eventTurn cfg until s ≡ rules.again (popObservation cfg (clockTo t s)) → Stops (popObservation cfg (clockTo t s))
-unfolding popObservation rules.taking weight
-pop-stops cfg until s t e = some-case (λ (r : rules.Run). popObservation cfg (clockTo t s) ≡ r → Stops r) (popped 16 blankObs (observedRow (s .observed)) .got) _ (rules.ranTo (clockTo t s))
-    (λ o _ _. pick-case Stops _ _ _ (λ _. inl refl) (λ _. inl refl))
-    (λ _ q. let z : weight (clockTo t s) < weight s = subst (λ (r : rules.Run). weight (r .state) < weight s) q (event-falls cfg until s (popObservation cfg (clockTo t s)) e (ap (λ (r : rules.Run). r .outcome) q)) in absurd (omega (arith, z)))
-    refl
-
-pub obs-stops : (cfg : Config) (until : ℕ) (s : KernelState) (x : Next) → ruleNext x ≡ nextOf until s → (k : Class) (t : ℕ) → x ≡ At k t → k ≡ Observation
-    → (now : ℕ) → now ≡ max t (s .clock .«now_ns») → (l : Log) (a : Step) (w : List ℕ) → actual a w ≡ expected l (popObservation cfg (clockAt now s)) → Stopped (a .outcome)
-unfolding expected eventTurn
-obs-stops cfg until s x e k t h j now m l a w g = subst Stopped (sym left-is) (pop-stops cfg until s t (rw (← e, h, j)))
-  where
-    left-is : a .outcome ≡ outcomeOf (popObservation cfg (clockTo t s) .outcome)
-    left-is = rw (← m) (ap (λ (y : StepResult). y .outcome) g)
-
--- ---- run_phases: a step that ran, and one in whose place nothing was done. The variables are equal to what it left, where they meet
+-- ---- the caller: a step that ran, and one in whose place nothing was done. The variables are equal to what it left, where they meet
 pub goes-ran : (l : Log) (r : rules.Run) (a : Step) (v : List ℕ) → actual a v ≡ expected l r → a .outcome ≡ Ran
     → {w1 : List ℕ} {s1 : KernelState} {n1 : ℕ} → w1 ≡ v → s1 ≡ a .state → n1 ≡ a .raised → Goes l r s1 (logAt w1 n1)
 goes-ran l r a v e h p q m k = rw (p, q, m) (sym (then-ran l r k a v e h))
@@ -203,10 +199,15 @@ pub goes-none : (w : List ℕ) (n : ℕ) (r : rules.Run) (s : KernelState) → r
 unfolding rules.andThen
 goes-none w n r s e p q m k = rw (p, q, m, e)
 
--- ---- run_phases: the walk
-pub walk-none : (cfg : Config) (until : ℕ) (s : KernelState) (x : Next) → ruleNext x ≡ nextOf until s → x ≡ Nothing → runEvents cfg until s ≡ rules.ranTo s
-unfolding eventTurn
-walk-none cfg until s x e h = walk-last cfg until s (rules.ranTo s) (rw (← e, h))
+-- ---- the caller: the work on a row is its walk, then what stands behind it
+abbrev pub behind : Work → Config → List ℕ → ℕ → KernelTick → KernelState → rules.Run
+behind Match cfg rows i row t = rules.andThen (matchRow cfg row (clockTo (row .«ts_ns») t)) (queueObservation cfg i row)
+behind Settle cfg rows i row t = rules.andThen (pick (fits (row .bid + row .ask)) (rules.raised (RowEnd i (row .«ts_ns»)) t) (rules.haltAt LedgerOverflow t)) (nextRow cfg rows)
+
+pub worked-is : (x : Work) (cfg : Config) (rows : List ℕ) (i : ℕ) (row : KernelTick) (s : KernelState) → worked x cfg rows i row s ≡ rules.andThen (runEvents cfg (row .«ts_ns») s) (behind x cfg rows i row)
+unfolding matchPhase settleRow
+worked-is Match cfg rows i row s = refl
+worked-is Settle cfg rows i row s = then-then (runEvents cfg (row .«ts_ns») s) _ (nextRow cfg rows)
 
 -- it stopped: what it left is all of the turn
 pub walk-left : (cfg : Config) (rows : List ℕ) (i : ℕ) (row : KernelTick) (s : KernelState) (l : Log) (a : Step) (w : List ℕ) → actual a w ≡ expected l (runEvents cfg (row .«ts_ns») s)
@@ -215,7 +216,7 @@ unfolding matchPhase settleRow
 walk-left cfg rows i row s l a w e m Match = then-stop l (runEvents cfg (row .«ts_ns») s) _ a w e m
 walk-left cfg rows i row s l a w e m Settle = then-stop l (settleRow cfg i row s) (nextRow cfg rows) a w (then-stop l (runEvents cfg (row .«ts_ns») s) _ a w e m) m
 
--- ---- run_phases: the next row
+-- ---- the caller: the next row
 module _ (l : Log) (cfg : Config) (rows : List ℕ) (s : KernelState) (r : Onward) (e : onwardTo r s ≡ nextRow cfg rows s) where
   pub onward-end : r ≡ End → {x : StepResult} → x ≡ expected l (endOfData s) → x ≡ expected l (nextRow cfg rows s)
   onward-end h p = p ∙ ap (expected l) (ap (λ (o : Onward). onwardTo o s) (sym h) ∙ e)
@@ -223,7 +224,7 @@ module _ (l : Log) (cfg : Config) (rows : List ℕ) (s : KernelState) (r : Onwar
   pub onward-to : (at : Control) → r ≡ To at → record { outcome = Ran; state = withControl s at; log = l } ≡ expected l (nextRow cfg rows s)
   onward-to at h = expected-ran l (withControl s at) ∙ ap (expected l) (ap (λ (o : Onward). onwardTo o s) (sym h) ∙ e)
 
--- ---- run_phases: the row's end, after its walk
+-- ---- the caller: the row's end, after its walk
 module _ (l : Log) (cfg : Config) (rows : List ℕ) (i : ℕ) (row : KernelTick) (s : KernelState) (w : List ℕ) (n : ℕ) (t : KernelState) (walked : Goes l (runEvents cfg (row .«ts_ns») s) t (logAt w n))
     (sum : MaybeU64) (f : sum ≡ fitting (row .bid + row .ask)) where
   abbrev ends : KernelState → rules.Run
@@ -238,35 +239,40 @@ module _ (l : Log) (cfg : Config) (rows : List ℕ) (i : ℕ) (row : KernelTick)
   unfolding settleRow pick expected appendEvents
   settle-is m g v k q = sym (then-ran l (settleRow cfg i row s) (nextRow cfg rows) (record { outcome = Ran; state = t; raised = k }) v (rw (fits-some (row .bid + row .ask) m (sym f ∙ g), ← q) at (walked ends)) refl)
 
--- ---- run_phases: the match, after its walk
+-- ---- the caller: the match, after its walk
+-- a row opens, then the booked orders
+pub match-opened : (c : Config) (row : KernelTick) (s : KernelState) → matchRow c row (clockTo (row .«ts_ns») s) ≡ rules.andThen (opened row s) (booked c row)
+unfolding matchRow opened
+match-opened c row s = go (fitting (row .bid + row .ask)) (clockTo (row .«ts_ns») s)
+  where
+    go : (x : MaybeU64) (t : KernelState) → onWord x (λ mid2. booked c row (withGate t (gateMarked mid2 (s .gate)))) (rules.haltAt LedgerOverflow t)
+        ≡ rules.andThen (onWord x (λ mid2. rules.ranTo (withGate t (gateMarked mid2 (s .gate)))) (rules.haltAt LedgerOverflow t)) (booked c row)
+    go None t = unfold onWord rules.andThen in refl
+    go (Some mid2) t = unfold onWord rules.andThen in refl
+
+-- a and v are what opening the row left
 module _ (l : Log) (cfg : Config) (i : ℕ) (row : KernelTick) (s : KernelState) (w : List ℕ) (n : ℕ) (t : KernelState) (walked : Goes l (runEvents cfg (row .«ts_ns») s) t (logAt w n))
-    (now : ℕ) (now-is : now ≡ max (row .«ts_ns») (t .clock .«now_ns»)) (sum : MaybeU64) (f : sum ≡ fitting (row .bid + row .ask)) where
-  abbrev rest : KernelState → rules.Run
-  rest u = rules.andThen (matchRow cfg row (clockTo (row .«ts_ns») u)) (queueObservation cfg i row)
+    (a : Step) (v : List ℕ) (e : actual a v ≡ expected (logAt w n) (opened row t)) where
+  abbrev matched : KernelState → rules.Run
+  matched u = rules.andThen (booked cfg row u) (queueObservation cfg i row)
 
-  pub match-past : sum ≡ None → actual (record { outcome = Halt LedgerOverflow; state = clockAt now t; raised = n }) w ≡ expected l (matchPhase cfg i row s)
+  opens : expected (logAt w n) (rules.andThen (opened row t) matched) ≡ expected l (matchPhase cfg i row s)
   unfolding matchPhase
-  match-past g = halts ∙ walked rest
-    where
-      halts : actual (record { outcome = Halt LedgerOverflow; state = clockAt now t; raised = n }) w ≡ expected (logAt w n) (rest t)
-      halts = unfold matchRow onWord rules.andThen expected appendEvents in rw (← now-is, ← f, g)
+  opens =
+      ap (expected (logAt w n)) (sym (ap (λ (r : rules.Run). rules.andThen r (queueObservation cfg i row)) (match-opened cfg row t) ∙ then-then (opened row t) (booked cfg row) (queueObservation cfg i row)))
+      ∙ walked (λ u. rules.andThen (matchRow cfg row (clockTo (row .«ts_ns») u)) (queueObservation cfg i row))
 
-  module _ (mid2 : ℕ) (h : sum ≡ Some mid2) (gate : GateState) (eg : gate ≡ gateMarked mid2 (t .gate)) where
-    row-is : matchRow cfg row (clockTo (row .«ts_ns») t) ≡ booked cfg row (marking t now gate)
-    unfolding matchRow onWord
-    row-is = rw (← now-is, ← f, h, ← eg)
+  pub match-past : Stopped (a .outcome) → actual a v ≡ expected l (matchPhase cfg i row s)
+  match-past o = then-stop (logAt w n) (opened row t) matched a v e o ∙ opens
 
-    -- the booked orders, then the observation
-    pub match-is : expected (logAt w n) (rules.andThen (booked cfg row (marking t now gate)) (queueObservation cfg i row)) ≡ expected l (matchPhase cfg i row s)
-    unfolding matchPhase
-    match-is = ap (λ (r : rules.Run). expected (logAt w n) (rules.andThen r (queueObservation cfg i row))) (sym row-is) ∙ walked rest
+  -- the booked orders, then the observation
+  pub match-is : a .outcome ≡ Ran → expected (logAt v (a .raised)) (rules.andThen (booked cfg row (a .state)) (queueObservation cfg i row)) ≡ expected l (matchPhase cfg i row s)
+  match-is o = sym (then-ran (logAt w n) (opened row t) matched a v e o) ∙ opens
 
--- a is what the match pass left, and b what the sweep left
-pub swept-is : (l : Log) (cfg : Config) (row : KernelTick) (u : KernelState) (a : Matched) (v : List ℕ) → actual (matchedIn u a) v ≡ expected l (matchFrom cfg row (u .orders .count) 0 u) → a .outcome ≡ Ran
-    → (b : Swept) → ((x : KernelState) (n : ℕ) (y : List ℕ) → actual (sweptIn x n b) y ≡ expected (logAt y n) (sweepFrom (a .orders .count) 0 (withSwept x (a .orders) (u .msgs) (u .awaiting))))
-    → actual (sweptIn (matchedIn u a .state) (a .raised) b) v ≡ expected l (booked cfg row u)
-unfolding sweep
-swept-is l cfg row u a v e h b g = then-on l (matchFrom cfg row (u .orders .count) 0 u) sweep (matchedIn u a) v e h (g (matchedIn u a .state) (a .raised) v)
+-- the match pass, then the sweep, then k
+pub booked-then : (cfg : Config) (row : KernelTick) (u : KernelState) (k : KernelState → rules.Run)
+    → rules.andThen (booked cfg row u) k ≡ rules.andThen (matchFrom cfg row (u .orders .count) 0 u) (λ x. rules.andThen (sweep x) k)
+booked-then cfg row u k = then-then (matchFrom cfg row (u .orders .count) 0 u) sweep k
 
 -- ---- a turn of the phases
 pub turn-of : (cfg : Config) (rows : List ℕ) (s : KernelState) (x : Job) → turnBy x cfg rows s ≡ phaseTurn cfg rows s → {y : Job} → x ≡ y → phaseTurn cfg rows s ≡ turnBy y cfg rows s
@@ -292,3 +298,21 @@ module _ (cfg : Config) (rows : List ℕ) (s : KernelState) (r : rules.Run) (t :
 
   pub phases-fall : o ≡ Ran → turns rows u < turns rows s
   phases-fall h = subst (λ (x : KernelState). turns rows x < turns rows s) (sym (state-is l r left-by (m .words) e)) (phase-falls cfg rows s r t (ran-too l r left-by (m .words) e h))
+
+-- ---- a run that goes on does not wait for a decision
+pub again-not-paused : (cfg : Config) (rows : List ℕ) (s : KernelState) (r : rules.Run) → phaseTurn cfg rows s ≡ rules.again r → isPaused (s .control .phase) ≡ false
+unfolding phaseTurn
+again-not-paused cfg rows s r = go (s .control .phase)
+  where
+    go : (p : Phase) → onPhase p cfg rows s ≡ rules.again r → isPaused p ≡ false
+    go BeforeMatch e = refl
+    go ObsQueued e = refl
+    go AwaitDecision e = let z : _≡_ {A = ℕ} 0 1 = cc in absurd (omega arith)
+    go Terminal e = refl
+
+module _ (cfg : Config) (rows : List ℕ) (s : KernelState) (control : Control) where
+  pub row-not-paused : (w : Work) (i : ℕ) (row : KernelTick) → turnBy (Row w i row) cfg rows (withControl s control) ≡ phaseTurn cfg rows (withControl s control) → isPaused (control .phase) ≡ false
+  row-not-paused w i row e = again-not-paused cfg rows (withControl s control) (worked w cfg rows i row (withControl s control)) (sym e)
+
+  pub fail-not-paused : turnBy Fail cfg rows (withControl s control) ≡ phaseTurn cfg rows (withControl s control) → isPaused (control .phase) ≡ false
+  fail-not-paused e = again-not-paused cfg rows (withControl s control) (rules.haltAt CounterOverflow (withControl s control)) (sym e)

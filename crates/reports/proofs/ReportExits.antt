@@ -1,6 +1,5 @@
--- `stamp`, `report_on` and `queue_delivery`: one law for each way out. Assumes nothing.
+-- `stamp`, `report_on` and `tell`: one law for each way out. Assumes nothing.
 use Prim.Native.Nat.{ℕ, _+_, max, _≤_, _<_}
-use mathlib.Core.Bool.{true, false}
 use mathlib.Core.List.{List}
 use mathlib.Core.Path.{_≡_}
 use native.Mathlib.Omega.{arith}
@@ -8,16 +7,13 @@ use Rattle.numbers.specs.Choice.{pick}
 use Rattle.numbers.specs.Words.{fitting, onWord}
 use Rattle.numbers.specs.declared.MaybeU64.{MaybeU64}
 use Rattle.numbers.specs.declared.MaybeU64.the-variants.{None, Some}
-use Rattle.lists.specs.Lists.{pushed}
 use Rattle.lists.proofs.Exits.{put-full}
 use Rattle.lists.proofs.Room.{room}
-use Rattle.deliveries.specs.Rows.{deliveriesRow, deliveriesPut}
-use Rattle.state.specs.With.{withSeqs, withDeliveries, seqsStampSeq, clockLastDeliveryNs}
+use Rattle.deliveries.specs.Rows.{deliveriesRow}
+use Rattle.state.specs.With.{withSeqs, seqsStampSeq, clockLastDeliveryNs}
 use Rattle.book.specs.declared.MaybeFill.{MaybeFill}
 use Rattle.book.specs.declared.ReportRec.{ReportRec}
 use Rattle.book.specs.declared.config.Config.{Config}
-use Rattle.deliveries.specs.declared.Deliveries.{Deliveries}
-use Rattle.deliveries.specs.declared.DeliveriesPut.{DeliveriesPut}
 use Rattle.deliveries.specs.declared.MaybeDelivery.the-variants as delivery
 use Rattle.state.specs.declared.Clock.{Clock}
 use Rattle.state.specs.declared.HaltReason.the-variants.{TimeOverflow, CounterOverflow}
@@ -29,7 +25,7 @@ use Rattle.models.specs.declared.latency.Arrival.{Arrival}
 use Rattle.rules.specs.Run as rules
 use Rattle.rules.specs.Report.{stamp, delay, delayed, pushDelivery, reported, queueDelivery}
 use Rattle.reports.specs.Log.{logAt, appendEvent, appendEvents, StepResult, expected, actual}
-use Rattle.reports.specs.Report.{stampedIn, withReport, reportedIn, withQueue, queuedIn, withVenue, toldIn}
+use Rattle.reports.specs.Report.{stampedIn, withReport, reportedIn, withVenue, toldIn}
 use Rattle.reports.specs.declared.Outcome.the-variants.{Ran, Halt}
 use Rattle.reports.specs.declared.report.Reported.{Reported}
 use Rattle.reports.specs.declared.Venue.{Venue}
@@ -65,33 +61,7 @@ module _ (w : List ℕ) (raised : ℕ) (cfg : Config) (report : ReportRec) (rng 
 abbrev pub push-of : ReportRec → MaybeFill → KernelState → rules.Run
 push-of r f t = pushDelivery (record { «at_ns» = t .clock .«last_delivery_ns»; report = r; fill = f }) t
 
-module _ (w w1 : List ℕ) (raised : ℕ) (cfg : Config) (report : ReportRec) (fill : MaybeFill) (rng : ℕ) (clock : Clock) (deliveries : Deliveries)
-    (a : Reported) (e : (s : KernelState) → actual (reportedIn s a) w1 ≡ expected (logAt w raised) (reported cfg report (withReport s rng clock))) where
-  pub queue-stop : Stopped (a .outcome) → (s : KernelState)
-      → actual (queuedIn s (record { outcome = a .outcome; «rng_latency» = a .«rng_latency»; clock = a .clock; deliveries = deliveries; raised = a .raised })) w1
-      ≡ expected (logAt w raised) (queueDelivery cfg report fill (withQueue s rng clock deliveries))
-  unfolding queueDelivery
-  queue-stop m s = then-stop (logAt w raised) _ (push-of report fill) (reportedIn (withDeliveries s deliveries) a) w1 (e (withDeliveries s deliveries)) m
-
-  module _ (h : a .outcome ≡ Ran) (put : DeliveriesPut)
-      (p : deliveriesPut put ≡ pushed 24 (record { «at_ns» = a .clock .«last_delivery_ns»; report = report; fill = fill }) (deliveriesRow deliveries)) where
-    -- what the push leaves is what the whole leaves
-    pushes : (s : KernelState) {x : StepResult} → x ≡ expected (logAt w1 (a .raised)) (push-of report fill (withQueue s (a .«rng_latency») (a .clock) deliveries))
-        → x ≡ expected (logAt w raised) (queueDelivery cfg report fill (withQueue s rng clock deliveries))
-    unfolding queueDelivery
-    pushes s q = then-on (logAt w raised) _ (push-of report fill) (reportedIn (withDeliveries s deliveries) a) w1 (e (withDeliveries s deliveries)) h q
-
-    pub queue-in : put .ok ≡ true → (s : KernelState)
-        → actual (queuedIn s (record { outcome = Ran; «rng_latency» = a .«rng_latency»; clock = a .clock; deliveries = put .list; raised = a .raised })) w1
-        ≡ expected (logAt w raised) (queueDelivery cfg report fill (withQueue s rng clock deliveries))
-    queue-in o s = pushes s (unfold pushDelivery rules.putting pick expected appendEvents in rw (← p, o))
-
-    pub queue-full : put .ok ≡ false → (s : KernelState)
-        → actual (queuedIn s (record { outcome = Halt CounterOverflow; «rng_latency» = a .«rng_latency»; clock = a .clock; deliveries = deliveries; raised = a .raised })) w1
-        ≡ expected (logAt w raised) (queueDelivery cfg report fill (withQueue s rng clock deliveries))
-    queue-full o s = pushes s (unfold pushDelivery rules.putting pick expected appendEvents in rw (← p, o))
-
--- ---- the same, with the delivery still in hand: `waiting` others are before it
+-- `waiting` others are before it
 abbrev pub reportedBy : Venue → Reported → Venue
 reportedBy v a = record { «rng_latency» = a .«rng_latency»; clock = a .clock; seqs = v .seqs; gate = v .gate; counters = v .counters }
 

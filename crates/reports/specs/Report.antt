@@ -10,7 +10,6 @@ use Rattle.deliveries.specs.declared.MaybeDelivery.the-variants as delivery
 use Rattle.state.specs.declared.Clock.{Clock}
 use Rattle.state.specs.declared.KernelState.{KernelState}
 use Rattle.reports.specs.declared.Step.{Step}
-use Rattle.reports.specs.declared.report.Queued.{Queued}
 use Rattle.reports.specs.declared.report.Reported.{Reported}
 use Rattle.reports.specs.declared.report.Stamped.{Stamped}
 use Rattle.reports.specs.declared.report.Told.{Told}
@@ -24,12 +23,6 @@ withReport s g c = withClock (withRngLatency s g) c
 
 abbrev pub reportedIn : KernelState → Reported → Step
 reportedIn s a = record { outcome = a .outcome; state = withReport s (a .«rng_latency») (a .clock); raised = a .raised }
-
-abbrev pub withQueue : KernelState → ℕ → Clock → Deliveries → KernelState
-withQueue s g c d = withDeliveries (withReport s g c) d
-
-abbrev pub queuedIn : KernelState → Queued → Step
-queuedIn s q = record { outcome = q .outcome; state = withQueue s (q .«rng_latency») (q .clock) (q .deliveries); raised = q .raised }
 
 abbrev pub withVenue : KernelState → Venue → KernelState
 withVenue s v = record { control = s .control; clock = v .clock; «rng_latency» = v .«rng_latency»; seqs = v .seqs; orders = s .orders; msgs = s .msgs; awaiting = s .awaiting; gate = v .gate; deliveries = s .deliveries; observed = s .observed; agent = s .agent; account = s .account; counters = v .counters }

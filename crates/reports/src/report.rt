@@ -9,7 +9,6 @@ use book::Origin;
 use book::ReportRec;
 use book::VenueOrder;
 use book::config::Config;
-use deliveries::Deliveries;
 use deliveries::MaybeDelivery;
 use models::latency::delayed;
 use numbers::MaybeU64;
@@ -26,7 +25,7 @@ ghost use Rattle.state.specs.declared.KernelState.{KernelState};
 ghost use Rattle.state.specs.With.{withSeqs};
 ghost use Rattle.rules.specs.Report.{stamp, reportAt, reported, queueDelivery};
 ghost use Rattle.reports.specs.Log.{logAt, expected, actual};
-ghost use Rattle.reports.specs.Report.{stampedIn, reportedIn, withReport, queuedIn, withQueue, withVenue, toldIn};
+ghost use Rattle.reports.specs.Report.{stampedIn, reportedIn, withReport, withVenue, toldIn};
 
 // What a stamp changes.
 pub struct Stamped {
@@ -47,15 +46,6 @@ pub struct Told {
     pub outcome: Outcome,
     pub venue: Venue,
     pub sent: MaybeDelivery,
-    pub raised: u64,
-}
-
-// What queueing a delivery changes.
-pub struct Queued {
-    pub outcome: Outcome,
-    pub rng_latency: u64,
-    pub clock: Clock,
-    pub deliveries: Deliveries,
     pub raised: u64,
 }
 
@@ -132,55 +122,6 @@ pub fn report_on(
         rng_latency: arrival.rng,
         clock: next,
         raised: n,
-    }
-}
-
-// A report: its event, and its delivery on the way.
-pub fn queue_delivery(
-    log: &mut [u64],
-    raised: u64,
-    cfg: Config,
-    report: ReportRec,
-    fill: MaybeFill,
-    rng_latency: u64,
-    clock: Clock,
-    deliveries: Deliveries,
-) -> Queued
-    ensures { λ r. ⌜ ((s : KernelState) → actual (queuedIn s r) (now (log .exit)) ≡ expected (logAt (now (log .entry)) raised) (queueDelivery cfg report fill (withQueue s «rng_latency» clock deliveries))) ⌝ }
-{
-    let r = report_on(log, raised, cfg, report, rng_latency, clock);
-    let next = r.clock;
-    let o = r.outcome;
-    let Outcome::Ran = o else {
-        return Queued {
-            outcome: o,
-            rng_latency: r.rng_latency,
-            clock: next,
-            deliveries,
-            raised: r.raised,
-        };
-    };
-    let put = deliveries.push(Delivery {
-        at_ns: next.last_delivery_ns,
-        report,
-        fill,
-    });
-    if put.ok {
-        let list = put.list;
-        return Queued {
-            outcome: Outcome::Ran,
-            rng_latency: r.rng_latency,
-            clock: next,
-            deliveries: list,
-            raised: r.raised,
-        };
-    }
-    Queued {
-        outcome: Outcome::Halt(HaltReason::CounterOverflow),
-        rng_latency: r.rng_latency,
-        clock: next,
-        deliveries,
-        raised: r.raised,
     }
 }
 

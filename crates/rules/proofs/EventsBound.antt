@@ -109,7 +109,7 @@ answer-few {n = n} r g = go (r .outcome)
     go (halt h) = omega (arith, g .few, length-append (r .events) (Halted h ∷ []))
     go (ended ms) = omega (arith, g .few)
 
-phases-few : (c : Config) (rows : List ℕ) (s : KernelState) → countsFit s ≡ true → length (answer (phases c rows s) .events) ≤ 357 + 44 * (length rows / 5) + 1
+pub phases-few : (c : Config) (rows : List ℕ) (s : KernelState) → countsFit s ≡ true → length (answer (phases c rows s) .events) ≤ 357 + 44 * (length rows / 5) + 1
 unfolding phases
 phases-few c rows s e = answer-few _ (iter-in (phaseTurn c rows) (turn-affords rows c) (suc (turns rows s)) (357 + 44 * (length rows / 5)) s (fit-affords rows s e))
 

@@ -16,3 +16,4 @@ pub mod Conservation
 pub mod LastEvent
 pub mod Halts
 pub mod Sample
+pub mod Batch

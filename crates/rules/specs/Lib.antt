@@ -10,3 +10,4 @@ pub mod Generator
 pub mod Calls
 pub mod Examples
 pub mod Conservation
+pub mod Batch

@@ -1,64 +1,70 @@
--- The walk over the three queues: one law for each way out, and for a turn of the loop. Assumes nothing.
+-- The walk over the three queues: one law for each way out of a function, and laws for the caller whose loop walks. Assumes nothing.
 use Prim.Native.Nat.{ℕ, _<_, _≤_, max}
 use mathlib.Core.List.{List}
 use mathlib.Core.Option.{Option, none, some}
-use mathlib.Core.Path.{_≡_, refl, sym, ap, _∙_}
+use mathlib.Core.Path.{_≡_, sym, ap, _∙_, subst}
 use native.Mathlib.Omega.{arith}
+use lib.Dec.{leb}
 use borrow.Author.Tests.{lt-leb, le-leb}
 use Rattle.numbers.specs.Choice.{pick}
 use Rattle.numbers.specs.declared.MaybeU64.the-variants as u64
-use Rattle.lists.specs.Lists.{onSome, popped}
-use Rattle.book.specs.Entries.{blankDelivery, blankObs}
-use Rattle.deliveries.specs.Rows.{deliveriesRow, deliveriesTaken}
-use Rattle.observed.specs.Rows.{observedRow, observedTaken}
-use Rattle.state.specs.With.{withClock, clockNowNs, agentLastObsRow}
+use Rattle.lists.specs.Lists.{Taken, onSome, popped}
+use Rattle.lists.proofs.Cases.{pick-case}
+use Rattle.lists.proofs.Sums.{take-case, entry-case}
+use Rattle.book.specs.Capacities.{msgsCapacity, deliveriesCapacity, observedCapacity}
+use Rattle.book.specs.Entries.{blankMsg, blankDelivery, blankObs}
+use Rattle.deliveries.specs.Rows.{deliveriesRow}
+use Rattle.msgs.specs.Rows.{msgsRow}
+use Rattle.observed.specs.Rows.{observedRow}
+use Rattle.state.specs.With.{withControl, withClock, withObserved, clockNowNs, agentLastObsRow}
+use Rattle.book.specs.declared.Delivery.{Delivery}
 use Rattle.book.specs.declared.ObsEntry.{ObsEntry}
 use Rattle.book.specs.declared.config.Config.{Config}
-use Rattle.deliveries.specs.declared.DeliveriesTaken.{DeliveriesTaken}
-use Rattle.deliveries.specs.declared.MaybeDelivery.the-variants as delivery
-use Rattle.observed.specs.declared.MaybeObs.the-variants as obs
 use Rattle.observed.specs.declared.Observed.{Observed}
-use Rattle.observed.specs.declared.ObservedTaken.{ObservedTaken}
 use Rattle.state.specs.declared.AgentView.{AgentView}
 use Rattle.state.specs.declared.Control.{Control}
 use Rattle.state.specs.declared.KernelEvent.the-variants as event
 use Rattle.state.specs.declared.KernelState.{KernelState}
 use Rattle.rules.specs.Run as rules
 use Rattle.rules.specs.Events as events
+use Rattle.rules.specs.Phases.{phaseTurn}
 use Rattle.rules.proofs.Falls.{event-falls, walk-again, walk-last}
 use Rattle.reports.specs.Log.{logAt, appendEvent, appendEvents, expected, actual}
-use Rattle.walk.specs.Events.{ruleClass, ruleNext, withObsTaken, obsTakenIn}
-use Rattle.reports.specs.declared.Outcome.the-variants.{Ran, Left}
+use Rattle.reports.specs.declared.Outcome.the-variants.{Ran}
 use Rattle.reports.specs.declared.Step.{Step}
+use Rattle.reports.proofs.Then.{expected-ran, Stopped, then-ran, then-stop, then-then, state-is, ran-too}
+use Rattle.walk.specs.Events.{ruleClass, ruleNext, withLooked, lookedIn, seen}
 use Rattle.walk.specs.declared.Class.{Class}
 use Rattle.walk.specs.declared.Class.the-variants as class
+use Rattle.walk.specs.declared.Looked.{Looked}
 use Rattle.walk.specs.declared.Next.{Next}
 use Rattle.walk.specs.declared.Next.the-variants.{Nothing, At}
-use Rattle.delivery.proofs.DeliveryExits.{next-none}
-use Rattle.reports.proofs.Then.{expected-ran, Stopped, then-ran, then-stop, state-is, ran-too}
 
--- ---- pop_observation
-module _ (w : List ℕ) (n now : ℕ) (cfg : Config) (control : Control) (observed : Observed) (agent : AgentView)
-    (t : ObservedTaken) (p : observedTaken t ≡ popped 16 blankObs (observedRow observed)) where
-  pub pop-none : t .got ≡ obs.None → (s : KernelState)
-      → actual (obsTakenIn s now (record { outcome = Ran; control = control; observed = observed; agent = agent; raised = n })) w
-      ≡ expected (logAt w n) (events.popObservation cfg (withObsTaken s now control observed agent))
-  unfolding events.popObservation rules.taking onSome
-  pop-none h s = rw (← p, h) (expected-ran (logAt w n) (withObsTaken s now control observed agent))
+-- ---- look
+-- a look's control: the phases return at once
+abbrev Over : Control → Type 0
+Over k = (c : Config) (rows : List ℕ) (s : KernelState) → phaseTurn c rows (withControl s k) ≡ rules.last (rules.ranTo (withControl s k))
 
-  module _ (e : ObsEntry) (h : t .got ≡ obs.Some e) where
-    pub pop-over : (over : Control) → cfg .«s_max» ≤ control .step → over ≡ events.truncated control → (s : KernelState)
-        → actual (obsTakenIn s now (record { outcome = Left; control = over; observed = t .list; agent = agent; raised = n })) w
-        ≡ expected (logAt w n) (events.popObservation cfg (withObsTaken s now control observed agent))
-    unfolding events.popObservation rules.taking onSome pick expected appendEvents
-    pop-over over l o s = rw (← p, h, le-leb _ _ l, o)
+module _ (w w1 : List ℕ) (n now : ℕ) (cfg : Config) (row : ℕ) (control : Control) (agent : AgentView) where
+  -- what the contract says of a look
+  abbrev Looks : Looked → Type 0
+  Looks r = ((s : KernelState) → s .clock .«now_ns» ≡ now → actual (lookedIn s r) w1 ≡ expected (logAt w n) (seen cfg row (withLooked s control agent))) × Over (r .control)
 
-    pub pop-pauses : (w1 : List ℕ) (m : ℕ) (paused : Control) → control .step < cfg .«s_max»
-        → logAt w1 m ≡ appendEvent (logAt w n) (event.Observed (e .row) now) → paused ≡ events.pausedAt control → (s : KernelState)
-        → actual (obsTakenIn s now (record { outcome = Left; control = paused; observed = t .list; agent = agentLastObsRow agent (u64.Some (e .row)); raised = m })) w1
-        ≡ expected (logAt w n) (events.popObservation cfg (withObsTaken s now control observed agent))
-    unfolding events.popObservation rules.taking onSome pick expected appendEvents
-    pop-pauses w1 m paused l em o s = rw (← p, h, lt-leb _ _ l, o, ← em)
+  pub look-pauses : (m : ℕ) (paused : Control) → control .step < cfg .«s_max» → logAt w1 m ≡ appendEvent (logAt w n) (event.Observed row now) → paused ≡ events.pausedAt control
+      → Looks (record { control = paused; agent = agentLastObsRow agent (u64.Some row); raised = m })
+  unfolding seen pick expected appendEvents phaseTurn
+  look-pauses m paused l em o = (λ s k. rw (lt-leb _ _ l, k, o, ← em), λ c rows s. rw o)
+
+pub look-over : (w : List ℕ) (n now : ℕ) (cfg : Config) (row : ℕ) (control : Control) (agent : AgentView) (over : Control) → cfg .«s_max» ≤ control .step → over ≡ events.truncated control
+    → Looks w w n now cfg row control agent (record { control = over; agent = agent; raised = n })
+unfolding seen pick expected appendEvents phaseTurn
+look-over w n now cfg row control agent over l o = (λ s k. rw (le-leb _ _ l, o), λ c rows s. rw o)
+
+-- e comes out of the list of s, and l is the rest: what is seen of it is all of the step
+pub seen-pops : (c : Config) (s : KernelState) (e : ObsEntry) (l : Observed) → popped observedCapacity blankObs (observedRow (s .observed)) .got ≡ some e
+    → popped observedCapacity blankObs (observedRow (s .observed)) .list ≡ observedRow l → events.popObservation c s ≡ seen c (e .row) (withObserved s l)
+unfolding events.popObservation rules.taking onSome seen
+seen-pops c s e l h el = rw (h, el)
 
 -- ---- which event is next
 pub due : (limit : ℕ) (k : Class) (t : ℕ) → t ≤ limit → ruleNext (At k t) ≡ events.dueBy limit (ruleClass k) t
@@ -103,44 +109,102 @@ pub soonest : (limit : ℕ) (s : KernelState) (m d o later r : Next) → ruleNex
 unfolding events.nextOf
 soonest limit s m d o later r em ed eo el er = er ∙ rw (em, el, ed, eo)
 
--- ---- run_events: x is next at s
-module _ (cfg : Config) (until : ℕ) (s : KernelState) (x : Next) (e : ruleNext x ≡ events.nextOf until s) (w : List ℕ) (n : ℕ) where
-  pub walk-done : x ≡ Nothing → actual (record { outcome = Ran; state = s; raised = n }) w ≡ expected (logAt w n) (events.runEvents cfg until s)
-  unfolding events.eventTurn
-  walk-done h = expected-ran (logAt w n) s ∙ ap (expected (logAt w n)) (sym (walk-last cfg until s (rules.ranTo s) (rw (← e, h))))
+-- ---- what is next has a first entry
+abbrev Due : events.Class → KernelState → Type 0
+Due events.venue s = (0 < s .msgs .count) × (s .msgs .count ≤ msgsCapacity)
+Due events.delivery s = (0 < s .deliveries .count) × (s .deliveries .count ≤ deliveriesCapacity)
+Due events.observation s = (0 < s .observed .count) × (s .observed .count ≤ observedCapacity)
 
-  -- its class is j, and now is where the clock rose to: a and w1 are what handling it left
+abbrev DueIn : KernelState → events.Next → Type 0
+DueIn s events.nothing = Unit {0}
+DueIn s (events.next k t) = Due k s
+
+due-in : (limit : ℕ) (k : events.Class) (t : ℕ) (s : KernelState) → Due k s → DueIn s (events.dueBy limit k t)
+unfolding events.dueBy
+due-in limit k t s d = pick-case (DueIn s) (leb t limit) _ _ (λ _. d) (λ _. tt)
+
+sooner-in : (s : KernelState) (a b : events.Next) → DueIn s a → DueIn s b → DueIn s (events.sooner a b)
+unfolding events.sooner
+sooner-in s events.nothing b h g = g
+sooner-in s (events.next k t) events.nothing h g = h
+sooner-in s (events.next k t) (events.next j u) h g = pick-case (DueIn s) (leb t u) _ _ (λ _. h) (λ _. g)
+
+module _ (limit : ℕ) (s : KernelState) where
+  next-in : DueIn s (events.nextOf limit s)
+  unfolding events.nextOf events.nextMsg events.nextDelivery events.nextObservation
+  next-in = sooner-in s _ _
+      (entry-case msgsCapacity (DueIn s) blankMsg 0 (msgsRow (s .msgs)) _ _ (λ w z. due-in limit events.venue _ s (z, w)) (λ _. tt))
+      (sooner-in s _ _
+      (entry-case deliveriesCapacity (DueIn s) blankDelivery 0 (deliveriesRow (s .deliveries)) _ _ (λ w z. due-in limit events.delivery _ s (z, w)) (λ _. tt))
+      (entry-case observedCapacity (DueIn s) blankObs 0 (observedRow (s .observed)) _ _ (λ w z. due-in limit events.observation _ s (z, w)) (λ _. tt)))
+
+  pub due-msg : (t : ℕ) → events.nextOf limit s ≡ events.next events.venue t → (0 < s .msgs .count) × (s .msgs .count ≤ msgsCapacity)
+  due-msg t e = subst (DueIn s) e next-in
+
+  pub due-delivery : (t : ℕ) → events.nextOf limit s ≡ events.next events.delivery t → (0 < s .deliveries .count) × (s .deliveries .count ≤ deliveriesCapacity)
+  due-delivery t e = subst (DueIn s) e next-in
+
+  pub due-observation : (t : ℕ) → events.nextOf limit s ≡ events.next events.observation t → (0 < s .observed .count) × (s .observed .count ≤ observedCapacity)
+  due-observation t e = subst (DueIn s) e next-in
+
+-- ---- the caller's walk: x is next at s
+module _ (cfg : Config) (until : ℕ) (s : KernelState) (x : Next) (e : ruleNext x ≡ events.nextOf until s) (w : List ℕ) (n : ℕ) where
+  module _ (h : x ≡ Nothing) where
+    ends : events.runEvents cfg until s ≡ rules.ranTo s
+    unfolding events.eventTurn
+    ends = walk-last cfg until s (rules.ranTo s) (rw (← e, h))
+
+    pub walk-done : actual (record { outcome = Ran; state = s; raised = n }) w ≡ expected (logAt w n) (events.runEvents cfg until s)
+    walk-done = expected-ran (logAt w n) s ∙ ap (expected (logAt w n)) (sym ends)
+
+    -- the same, with k behind the walk
+    pub walk-done-then : (k : KernelState → rules.Run) → expected (logAt w n) (k s) ≡ expected (logAt w n) (rules.andThen (events.runEvents cfg until s) k)
+    unfolding rules.andThen
+    walk-done-then k = rw ends
+
+  -- its class is j
+  pub next-is : (k : Class) (t : ℕ) → x ≡ At k t → (j : Class) → k ≡ j → events.nextOf until s ≡ events.next (ruleClass j) t
+  next-is k t h j hj = rw (← e, h, hj)
+
+  -- the same, and now is where the clock rose to: a and w1 are what handling it left
   module _ (k : Class) (t : ℕ) (h : x ≡ At k t) (j : Class) (now : ℕ) (hj : k ≡ j) (m : now ≡ max t (s .clock .«now_ns»))
       (a : Step) (w1 : List ℕ) (g : actual a w1 ≡ expected (logAt w n) (events.handle cfg (ruleClass j) (withClock s (clockNowNs (s .clock) now)))) where
     abbrev handled : rules.Run
-    handled = events.handle cfg (ruleClass k) (events.clockTo t s)
+    handled = events.handle cfg (ruleClass j) (events.clockTo t s)
 
     step : actual a w1 ≡ expected (logAt w n) handled
-    step = rw (hj, ← m) g
+    step = rw (← m) g
 
     turn : events.eventTurn cfg until s ≡ rules.again handled
     unfolding events.eventTurn
-    turn = rw (← e, h)
+    turn = rw (next-is k t h j hj)
 
-    opens : expected (logAt w n) (events.runEvents cfg until s) ≡ expected (logAt w n) (rules.andThen handled (events.runEvents cfg until))
-    opens = ap (expected (logAt w n)) (walk-again cfg until s handled turn)
+    opens : events.runEvents cfg until s ≡ rules.andThen handled (events.runEvents cfg until)
+    opens = walk-again cfg until s handled turn
+
+    -- with f behind the walk, what is left of it stands behind the event
+    opens-then : (f : KernelState → rules.Run) → rules.andThen (events.runEvents cfg until s) f ≡ rules.andThen handled (λ u. rules.andThen (events.runEvents cfg until u) f)
+    opens-then f = ap (λ (r : rules.Run). rules.andThen r f) opens ∙ then-then handled (events.runEvents cfg until) f
 
     pub walk-goes : a .outcome ≡ Ran → expected (logAt w1 (a .raised)) (events.runEvents cfg until (a .state)) ≡ expected (logAt w n) (events.runEvents cfg until s)
-    walk-goes o = sym (opens ∙ then-ran (logAt w n) handled (events.runEvents cfg until) a w1 step o)
+    walk-goes o = sym (ap (expected (logAt w n)) opens ∙ then-ran (logAt w n) handled (events.runEvents cfg until) a w1 step o)
+
+    pub walk-goes-then : a .outcome ≡ Ran → (f : KernelState → rules.Run)
+        → expected (logAt w1 (a .raised)) (rules.andThen (events.runEvents cfg until (a .state)) f) ≡ expected (logAt w n) (rules.andThen (events.runEvents cfg until s) f)
+    walk-goes-then o f = sym (ap (expected (logAt w n)) (opens-then f) ∙ then-ran (logAt w n) handled (λ u. rules.andThen (events.runEvents cfg until u) f) a w1 step o)
 
     pub walk-stops : Stopped (a .outcome) → actual a w1 ≡ expected (logAt w n) (events.runEvents cfg until s)
-    walk-stops o = then-stop (logAt w n) handled (events.runEvents cfg until) a w1 step o ∙ sym opens
+    walk-stops o = then-stop (logAt w n) handled (events.runEvents cfg until) a w1 step o ∙ ap (expected (logAt w n)) (sym opens)
+
+    pub walk-stops-then : Stopped (a .outcome) → (f : KernelState → rules.Run) → actual a w1 ≡ expected (logAt w n) (rules.andThen (events.runEvents cfg until s) f)
+    walk-stops-then o f = then-stop (logAt w n) handled (λ u. rules.andThen (events.runEvents cfg until u) f) a w1 step o ∙ ap (expected (logAt w n)) (sym (opens-then f))
 
     pub walk-falls : a .outcome ≡ Ran → events.weight (a .state) < events.weight s
     walk-falls o = rw (state-is (logAt w n) handled a w1 step) (event-falls cfg until s handled turn (ran-too (logAt w n) handled a w1 step o))
 
-  -- a delivery is next: so one comes out of the list, and this cannot be
-  pub walk-none : (k : Class) (t : ℕ) (h : x ≡ At k t) (now : ℕ) (hj : k ≡ class.Delivery) (m : now ≡ max t (s .clock .«now_ns»))
-      (d : DeliveriesTaken) → deliveriesTaken d ≡ popped 24 blankDelivery (deliveriesRow (s .deliveries)) → d .got ≡ delivery.None
-      → actual (record { outcome = Ran; state = withClock s (clockNowNs (s .clock) now); raised = n }) w ≡ expected (logAt w n) (events.runEvents cfg until s)
-  unfolding events.weight
-  walk-none k t h now hj m d p o =
-      let u : KernelState = withClock s (clockNowNs (s .clock) now) in
-      let f : events.weight u < events.weight s = walk-falls k t h class.Delivery now hj m (record { outcome = Ran; state = u; raised = n }) w
-      (expected-ran (logAt w n) u ∙ ap (expected (logAt w n)) (sym (next-none u d p o))) refl in
-      absurd (omega arith)
+-- a delivery is next: so one comes out of the list
+pub walk-none : (limit : ℕ) (s : KernelState) (t : ℕ) → events.nextOf limit s ≡ events.next events.delivery t → popped deliveriesCapacity blankDelivery (deliveriesRow (s .deliveries)) .got ≡ none → ⊥
+walk-none limit s t e =
+    let d = due-delivery limit s t e in
+    take-case deliveriesCapacity (λ (y : Taken Delivery). y .got ≡ none → ⊥) blankDelivery 0 (deliveriesRow (s .deliveries))
+    (λ x l o h. let z : _≡_ {A = ℕ} 0 1 = cc in omega arith) (λ o h. let y = o (d .1) in omega (arith, d .0))

@@ -1,29 +1,28 @@
-// The walk over the three queues.
+// The walk over the three queues: which event is next, and what an observation does.
 use book::config::Config;
 use deliveries::Deliveries;
 use deliveries::MaybeDelivery;
-use delivery::deliver;
-use messages::apply_next_msg;
 use msgs::MaybeMsg;
 use msgs::Msgs;
 use numbers::MaybeU64;
-use numbers::words::max;
 use observed::MaybeObs;
 use observed::Observed;
-use reports::Outcome;
-use reports::Step;
 use reports::log::emit;
 use state::AgentView;
 use state::Control;
 use state::KernelEvent;
-use state::KernelState;
 use state::Status;
 ghost use mathlib.Core.Path.{_≡_};
+ghost use mathlib.Core.List.{List};
+ghost use Prim.Native.Nat.{ℕ};
+ghost use Rattle.book.specs.declared.config.Config.{Config};
 ghost use Rattle.state.specs.declared.KernelState.{KernelState};
-ghost use Rattle.rules.specs.Events.{popObservation, dueBy, sooner, nextMsg, nextDelivery, nextObservation, nextOf, runEvents};
-ghost use Rattle.state.specs.With.{withMsgs, withDeliveries, withObserved};
+ghost use Rattle.state.specs.With.{withControl, withMsgs, withDeliveries, withObserved};
+ghost use Rattle.rules.specs.Run.{ranTo, last};
+ghost use Rattle.rules.specs.Events.{dueBy, sooner, nextMsg, nextDelivery, nextObservation, nextOf};
+ghost use Rattle.rules.specs.Phases.{phaseTurn};
 ghost use Rattle.reports.specs.Log.{logAt, expected, actual};
-ghost use Rattle.walk.specs.Events.{ruleClass, ruleNext, obsTakenIn, withObsTaken, withQueues};
+ghost use Rattle.walk.specs.Events.{ruleClass, ruleNext, withQueues, withLooked, lookedIn, seen};
 
 // Event classes, in their order at equal times.
 pub enum Class {
@@ -38,69 +37,44 @@ pub enum Next {
     At(Class, u64),
 }
 
-// What an observation changes of the state.
-pub struct ObsTaken {
-    pub outcome: Outcome,
+// What a look at an observation changes of the state.
+pub struct Looked {
     pub control: Control,
-    pub observed: Observed,
     pub agent: AgentView,
     pub raised: u64,
 }
 
-// The first observation pauses the run, or truncates it.
-pub fn pop_observation(
+// An observation that has left the list pauses the run, or truncates it.
+pub fn look(
     log: &mut [u64],
     raised: u64,
     cfg: Config,
     now_ns: u64,
+    row: u64,
     control: Control,
-    observed: Observed,
     agent: AgentView,
-) -> ObsTaken
-    ensures { λ r. ⌜ ((s : KernelState) → actual (obsTakenIn s «now_ns» r) (now (log .exit)) ≡ expected (logAt (now (log .entry)) raised) (popObservation cfg (withObsTaken s «now_ns» control observed agent))) ⌝ }
+) -> Looked
+    ensures { λ r. ⌜ ((s : KernelState) → s .clock .«now_ns» ≡ «now_ns» → actual (lookedIn s r) (now (log .exit)) ≡ expected (logAt (now (log .entry)) raised) (seen cfg row (withLooked s control agent))) × ((c : Config) (rows : List ℕ) (s : KernelState) → phaseTurn c rows (withControl s (r .control)) ≡ last (ranTo (withControl s (r .control)))) ⌝ }
 {
-    let taken = observed.pop_front();
-    let got = taken.got;
-    let MaybeObs::Some(entry) = got else {
-        return ObsTaken {
-            outcome: Outcome::Ran,
-            control,
-            observed,
-            agent,
-            raised,
-        };
-    };
-    let rest = taken.list;
     if cfg.s_max <= control.step {
         let over = control.ended(Status::Truncated);
-        return ObsTaken {
-            outcome: Outcome::Left,
+        return Looked {
             control: over,
-            observed: rest,
             agent,
             raised,
         };
     }
-    let n = emit(
-        log,
-        raised,
-        KernelEvent::Observed {
-            row: entry.row,
-            at_ns: now_ns,
-        },
-    );
+    let n = emit(log, raised, KernelEvent::Observed { row, at_ns: now_ns });
     let paused = control.paused();
     let pos = agent.pos;
     let view = AgentView {
         pos,
-        last_obs_row: MaybeU64::Some(entry.row),
+        last_obs_row: MaybeU64::Some(row),
         delivered_local_rejects: agent.delivered_local_rejects,
         delivered_fills: agent.delivered_fills,
     };
-    ObsTaken {
-        outcome: Outcome::Left,
+    Looked {
         control: paused,
-        observed: rest,
         agent: view,
         raised: n,
     }
@@ -170,78 +144,4 @@ pub fn next_of(limit: u64, msgs: Msgs, deliveries: Deliveries, observed: Observe
     let o = next_observation(limit, observed);
     let later = sooner(d, o);
     sooner(m, later)
-}
-
-// Runs every event with a time at or below `until`. The walk is left from inside as soon as an observation pauses it or truncates.
-pub fn run_events(log: &mut [u64], raised: u64, cfg: Config, until: u64, state: KernelState) -> Step
-    ensures { λ r. ⌜ actual r (now (log .exit)) ≡ expected (logAt (now (log .entry)) raised) (runEvents cfg until state) ⌝ }
-{
-    let mut s = state;
-    let mut n = raised;
-    let outcome = loop {
-        let msgs = s.msgs;
-        let deliveries = s.deliveries;
-        let observed = s.observed;
-        let next = next_of(until, msgs, deliveries, observed);
-        let Next::At(class, time) = next else {
-            break Outcome::Ran;
-        };
-        let now = max(time, s.clock.now_ns);
-        s.clock.now_ns = now;
-        match class {
-            Class::Venue => {
-                let a = apply_next_msg(log, n, cfg, s);
-                s = a.state;
-                n = a.raised;
-                let o = a.outcome;
-                let Outcome::Ran = o else {
-                    break o;
-                };
-            }
-            Class::Delivery => {
-                let due = s.deliveries;
-                let taken = due.pop_front();
-                let got = taken.got;
-                // One that is next is in the list, so the walk never ends here.
-                let MaybeDelivery::Some(delivery) = got else {
-                    break Outcome::Ran;
-                };
-                let rest = taken.list;
-                s.deliveries = rest;
-                let agent = s.agent;
-                let account = s.account;
-                let h = deliver(log, n, delivery, agent, account);
-                let moved = h.agent;
-                let view = h.account;
-                s.agent = moved;
-                s.account = view;
-                n = h.raised;
-                let o = h.outcome;
-                let Outcome::Ran = o else {
-                    break o;
-                };
-            }
-            Class::Observation => {
-                let control = s.control;
-                let agent = s.agent;
-                let l = pop_observation(log, n, cfg, now, control, observed, agent);
-                let at = l.control;
-                let rest = l.observed;
-                let view = l.agent;
-                s.control = at;
-                s.observed = rest;
-                s.agent = view;
-                n = l.raised;
-                let o = l.outcome;
-                let Outcome::Ran = o else {
-                    break o;
-                };
-            }
-        }
-    };
-    Step {
-        outcome,
-        state: s,
-        raised: n,
-    }
 }

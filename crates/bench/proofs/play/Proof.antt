@@ -8,10 +8,10 @@ use Rattle.bench.proofs.play.Statement.{statement}
 use Rattle.bench.proofs.play.Tie as tie
 
 abbrev Inv-loop : tie.InvT-loop
-Inv-loop cfg rows log₀ summed a₀ events₀ sum₀ counter₀ log a events sum counter = (counter ≤ 18446744073709551615) × (length log ≡ length log₀)
+Inv-loop cfg rows log₀ summed passes a₀ events₀ sum₀ counter₀ log a events sum counter = (counter ≤ 18446744073709551615) × (length log ≡ length log₀)
 
 abbrev μ-loop : tie.MeasureT-loop
-μ-loop cfg rows log₀ summed a₀ events₀ sum₀ counter₀ log a events sum counter = 18446744073709551615 - counter
+μ-loop cfg rows log₀ summed passes a₀ events₀ sum₀ counter₀ log a events sum counter = 18446744073709551615 - counter
 
 pub play-spec : {M : Type 1} → statement M
 play-spec =

@@ -22,7 +22,7 @@ play-all-spec =
     (λ c. search needs)
     (λ c κs. search needs)
     (λ c κs. search needs)
-    (λ c. search needs)
+    (λ c. let b = c .before .before .before .before .before in let d = b .before .before .before .before .before .before .before .before .before .before in omega (arith, b .loop-test .taken, d .good .1 .0))
     (λ c. omega arith)
     (λ c. search needs)
     (λ c κs. search needs)

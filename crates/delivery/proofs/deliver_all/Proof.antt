@@ -27,15 +27,15 @@ deliver-all-spec =
     (λ c. search needs)
     (λ c κs. search needs)
     (λ c. search needs)
-    (λ c. let b = c .before .before .before .before .before .before .before .before .before .before .before .before in
-    omega (arith, one-less (b .before .loop .d) (b .pop-front .result) (b .pop-front .ensures) (c .before .before .before .before .before .before .before .before .before .before .got .given .0 .0) (c .before .before .before .before .before .before .before .before .before .before .got .given .1)))
+    (λ c. let d = c .before .before .before .before .before .before .before .before .before .before in let b = d .before .before in
+    omega (arith, one-less (b .before .loop .d) (b .pop-front .result) (b .pop-front .ensures) (d .got .given .0 .0) (d .got .given .1)))
     (λ c. let b = c .before .before .before .before .before .before in let d = b .before .before .before .before in let e = d .before .before in let f = e .before in (
       b .deliver .kept .0 ∙ f .loop .inv .0,
-      λ s. all-turn _ _ _ _ _ (e .pop-front .result) (e .pop-front .ensures) (d .got .given .0 .0) (d .got .given .1) (b .deliver .result) _ (b .deliver .ensures) (c .enum-told2 .given .1) s ∙ f .loop .inv .1 s,
+      λ s. all-turn _ (f .loop .n) (f .loop .d) (f .loop .g) (f .loop .a) (e .pop-front .result) (e .pop-front .ensures) (d .got .given .0 .0) (d .got .given .1) (b .deliver .result) _ (b .deliver .ensures) (c .enum-told2 .given .1) s ∙ f .loop .inv .1 s,
     ))
     (λ c. c .before .before .before .loop .inv .0)
-    (λ c. let b = c .before .before in
-    λ s. all-done _ _ _ _ _ (b .pop-front .result) (b .pop-front .ensures) (c .enum-told .given .1) (b .before .loop .d .count) s ∙ b .before .loop .inv .1 s)
+    (λ c. let b = c .before .before in let f = b .before in
+    λ s. all-done _ (f .loop .n) (f .loop .d) (f .loop .g) (f .loop .a) (b .pop-front .result) (b .pop-front .ensures) (c .enum-told .given .1) (f .loop .d .count) s ∙ f .loop .inv .1 s)
     (λ c. c .before .before .before .before .before .deliver .kept .0 ∙ c .before .before .before .before .before .before .before .before .before .before .before .before .loop .inv .0)
     (λ c. let b = c .before .before .before .before .before in let d = b .before .before .before .before in let e = d .before .before in let f = e .before in
-    λ s. all-stop _ _ _ _ _ (e .pop-front .result) (e .pop-front .ensures) (d .got .given .0 .0) (d .got .given .1) (b .deliver .result) _ (b .deliver .ensures) (c .match2 .keys2) s ∙ f .loop .inv .1 s))
+    λ s. all-stop _ (f .loop .n) (f .loop .d) (f .loop .g) (f .loop .a) (e .pop-front .result) (e .pop-front .ensures) (d .got .given .0 .0) (d .got .given .1) (b .deliver .result) _ (b .deliver .ensures) (c .match2 .keys2) s ∙ f .loop .inv .1 s))

@@ -23,7 +23,7 @@ abbrev μ-loop : tie.MeasureT-loop
 pub emit-dropped-spec : {M : Type 1} → statement M
 emit-dropped-spec =
     tie.close (tie.spec Inv-loop μ-loop
-    (λ c. dropped-none _ _ _ (c .if1 .taken))
+    (λ c. dropped-none _ (c .before .before .args .raised) (c .before .before .args .msgs) (c .if1 .taken))
     (λ c. (omega arith, refl, refl))
     (λ c. search needs)
     (λ c. search needs)
@@ -32,7 +32,7 @@ emit-dropped-spec =
     (λ c. search needs)
     (λ c. omega arith)
     (λ c. let b = c .before .before .before .before in let d = b .before .before .before in let e = d .before .before .before in
-    (omega arith, c .before .before .emit .kept .0 ∙ d .loop .inv .1, dropped-turn _ _ _ _ (e .args .msgs .slots) (e .args .msgs .count) (d .loop .i) blankMsg _ (omega arith) (omega (arith, msgs-long (e .args .msgs) (e .good .1 .1 .0))) (b .dropped-event .ensures) (c .before .before .emit .ensures) ∙ d .loop .inv .2))
+    (omega arith, c .before .before .emit .kept .0 ∙ d .loop .inv .1, dropped-turn _ _ (d .loop .n) (c .before .before .emit .result) (e .args .msgs .slots) (e .args .msgs .count) (d .loop .i) blankMsg (b .dropped-event .result) (omega arith) (omega (arith, msgs-long (e .args .msgs) (e .good .1 .1 .0))) (b .dropped-event .ensures) (c .before .before .emit .ensures) ∙ d .loop .inv .2))
     (λ c. c .before .loop .inv .1)
     (λ c. let b = c .before .before .before .before in
-    dropped-all _ _ _ _ (b .args .msgs) (c .before .loop .i) (omega arith) (omega arith) (omega (arith, msgs-long (b .args .msgs) (b .good .1 .1 .0))) (c .before .loop .inv .2)))
+    dropped-all _ _ (b .args .raised) (c .before .loop .n) (b .args .msgs) (c .before .loop .i) (omega arith) (omega arith) (omega (arith, msgs-long (b .args .msgs) (b .good .1 .1 .0))) (c .before .loop .inv .2)))

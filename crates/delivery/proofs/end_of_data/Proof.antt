@@ -10,10 +10,16 @@ end-of-data-spec =
     tie.close (tie.spec
     (λ c κs. search needs)
     (λ c. search needs)
-    (λ c. search needs)
-    (λ c. let b = c .before .before .before .before .before .before in let d = b .before .before .before .before .before .before in
-    end-stops _ _ _ (d .args .s) (b .deliver-all .result) (b .deliver-all .ensures (d .args .s)) (c .match .keys2))
+    (λ c. c .before .before .before .before .before .before .deliver-all .kept .0)
+    (λ c. let b = c .before .before .before .before .before .before in let d = b .before .before .before in (
+      end-stops _ _ (d .args .raised) (d .args .control) (d .args .venue) (d .args .msgs) (d .args .deliveries) (d .args .observed) (d .args .agent) (d .args .account) (b .deliver-all .result) (b .deliver-all .ensures) (c .match .keys2),
+      λ p. p,
+    ))
     (λ c κs. search needs)
-    (λ c. search needs)
-    (λ c. let b = c .before .before .before .before in let d = b .before .before .before .before .before .before .before in let e = d .before .before .before .before .before .before in
-    c .before .before .close-data .ensures ∙ end-closes _ _ _ (e .args .s) (d .deliver-all .result) (d .deliver-all .ensures (e .args .s)) (b .enum-told .given .1)))
+    (λ c. let b = c .before .before .before .before .before .before in
+    b .close-data .kept .0 ∙ b .before .before .before .before .before .before .before .before .before .deliver-all .kept .0)
+    (λ c. let a = c .before .before .before .before .before .before in let t = a .before .before in let b = t .before .before .before .before .before .before .before in let d = b .before .before .before in (
+      end-closes _ _ (d .args .raised) (d .args .control) (d .args .venue) (d .args .msgs) (d .args .deliveries) (d .args .observed) (d .args .agent) (d .args .account) (b .deliver-all .result) (b .deliver-all .ensures)
+          (t .enum-told .given .1) _ (a .close-data .result) (a .close-data .ensures .0),
+      a .close-data .ensures .1,
+    )))

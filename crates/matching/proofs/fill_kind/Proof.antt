@@ -8,5 +8,5 @@ pub fill-kind-spec : {M : Type 1} → statement M
 fill-kind-spec =
     tie.close (tie.spec
     (λ c κs. search needs)
-    (λ c. kind-all (c .before .before .args .order) _ _ (c .before .remaining .ensures) (c .if1 .taken))
-    (λ c. kind-some (c .before .before .args .order) _ _ (c .before .remaining .ensures) (c .if1 .left)))
+    (λ c. kind-all (c .before .before .args .order) (c .before .before .args .lots) _ (c .before .remaining .ensures) (c .if1 .taken))
+    (λ c. kind-some (c .before .before .args .order) (c .before .before .args .lots) _ (c .before .remaining .ensures) (c .if1 .left)))

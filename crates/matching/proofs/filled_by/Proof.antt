@@ -9,7 +9,8 @@ filled-by-spec =
     tie.close (tie.spec
     (λ c κs. search needs)
     (λ c κs. search needs)
-    (λ c. search needs)
-    (λ c. filled-all _ _ _ (c .before .before .before .remaining .ensures) _ (c .before .before .if1 .taken) (c .before .in-state .ensures))
-    (λ c. search needs)
-    (λ c. filled-some _ _ _ (c .before .before .remaining .ensures) (c .before .if1 .left)))
+    (λ c κs. search needs)
+    (λ c. let b = c .before .before .before in let z = b .before in
+    filled-all (z .args .order) (z .args .lots) _ (b .remaining .ensures) _ (search needs) (search needs) (c .before .before .wrapping-add-u64 .ensures) (c .in-state .result) (c .before .if1 .taken) (c .in-state .ensures))
+    (λ c. let b = c .before .before in let z = b .before in
+    filled-some (z .args .order) (z .args .lots) _ (b .remaining .ensures) _ (search needs) (search needs) (c .before .wrapping-add-u64 .ensures) (c .if1 .left)))

@@ -1,7 +1,7 @@
 -- `matching::stopped` meets its contract. Assumes nothing.
 use Rattle.reports.specs.Log.{logAt}
 use Rattle.reports.proofs.Then.{expected-halt}
-use Rattle.matching.specs.Matching.{withVenue}
+use Rattle.reports.specs.Report.{withVenue}
 use Rattle.matching.proofs.stopped.Statement.{statement}
 use Rattle.matching.proofs.stopped.Tie as tie
 

@@ -10,6 +10,6 @@ terminal-at-spec =
     (λ c κs. search needs)
     (λ c. search needs)
     (λ c. search needs)
-    (λ c. terminal-none _ _ _ (c .before .before .get .ensures) (c .enum-told .given .1))
+    (λ c. let b = c .before .before in let z = b .before in terminal-none (z .args .orders) (z .args .index) _ (b .get .ensures) (c .enum-told .given .1))
     (λ c κs. search needs)
-    (λ c. terminal-some _ _ _ (c .before .before .before .before .get .ensures) _ _ (c .before .before .got .given .1) (c .is-terminal .ensures)))
+    (λ c. let b = c .before .before .before .before in let z = b .before in terminal-some (z .args .orders) (z .args .index) _ (b .get .ensures) _ _ (c .before .before .got .given .1) (c .is-terminal .ensures)))

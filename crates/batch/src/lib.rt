@@ -2,7 +2,6 @@
 use book::Delivery;
 use book::ObsEntry;
 use book::config::Config;
-use deliveries::MaybeDelivery;
 use delivery::deliver;
 use delivery::end_of_data;
 use entry::Again;
@@ -23,7 +22,6 @@ use numbers::MaybeU64;
 use numbers::words::checked_add;
 use numbers::words::max;
 use numbers::words::saturating_sub;
-use observed::MaybeObs;
 use parts::Slot;
 use parts::close;
 use parts::slot_of;
@@ -150,10 +148,7 @@ pub fn run(cfg: Config, rows: &[u64], state: KernelState, log: &mut [u64], passe
                             };
                         }
                         Class::Delivery => {
-                            let first = deliveries.get(0);
-                            let MaybeDelivery::Some(delivery) = first else {
-                                break;
-                            };
+                            let delivery = deliveries.slots[0];
                             let end = deliveries.count - 1;
                             for i in 0..end {
                                 let moved = deliveries.slots[i + 1];
@@ -171,10 +166,7 @@ pub fn run(cfg: Config, rows: &[u64], state: KernelState, log: &mut [u64], passe
                             };
                         }
                         Class::Observation => {
-                            let first = observed.get(0);
-                            let MaybeObs::Some(entry) = first else {
-                                break;
-                            };
+                            let entry = observed.slots[0];
                             let end = observed.count - 1;
                             for i in 0..end {
                                 let moved = observed.slots[i + 1];

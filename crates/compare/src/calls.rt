@@ -1,52 +1,76 @@
 // The calls of a case, and their outcomes as text.
-use super::case::Case;
-use super::case::Given;
-use super::case::Log;
-use super::input::CALLS;
-use super::input::Fields;
-use super::input::MOST_CALLS;
-use super::input::MOST_NAME;
-use super::input::NAME;
-use super::input::Reader;
-use super::input::least;
-use super::input::word;
-use super::output::Writer;
-use super::output::print;
-use super::output::put;
-use super::output::three;
-use super::state_text::put_state;
+use super::entries::short_row;
+use super::pieces::set_state;
+use super::pieces::state_on;
 use batch::Advanced;
 use book::config::Config;
+use book::config::FillMode;
+use casetext::case::pass_state;
+use casetext::desk::CALLS;
+use casetext::desk::Desk;
+use casetext::desk::EVENT;
+use casetext::desk::Fields;
+use casetext::desk::GIVEN;
+use casetext::desk::HEAD;
+use casetext::desk::LOG;
+use casetext::desk::MOST_CALLS;
+use casetext::desk::MOST_NAME;
+use casetext::desk::NAME;
+use casetext::desk::RAN;
+use casetext::desk::ROWS;
+use casetext::desk::fields_at;
+use casetext::desk::get;
+use casetext::desk::least;
+use casetext::desk::set;
+use casetext::desk::set_row;
+use casetext::format::CASE_WORD;
+use casetext::format::END_LINE;
+use casetext::format::EVENT_LINE;
+use casetext::format::RAN_LINES;
+use casetext::format::SUMMED_LINES;
+use casetext::format::pass_at;
+use casetext::format::pass_format;
+use casetext::input::Text;
+use casetext::output::put;
 use kernel::advance;
 use kernel::pass;
-use numbers::MaybeU64;
-use numbers::words::checked_add;
 use numbers::words::wrapping_mul;
 use state::KernelState;
 ghost use Prim.Native.Nat.{_+_, _*_, _≤_};
 
-// What calls came to: whether another may follow, the last answer, the events that the last `advance` raised, all that were raised and their sum, and the state.
-struct Ran {
-    more: bool,
-    answer: u64,
-    raised: u64,
-    count: u64,
-    sum: u64,
-    state: KernelState,
+// The room for a log. A log that is longer counts as this one, which no call fills.
+pub type Log = [u64; 24576];
+
+fn fill_of(f: Fields) -> FillMode {
+    if f.f == 0 {
+        return FillMode::Immediate;
+    }
+    FillMode::QueuePosition {
+        rate_lots: f.g,
+        per_ms: f.h,
+        min_queue_ms: f.i,
+    }
 }
 
-fn is_ended(s: KernelState) -> bool {
-    let control = s.control;
-    let phase = control.phase;
-    phase.is_terminal()
+fn config_of(f: Fields) -> Config {
+    Config {
+        quantum_ns: f.a,
+        observation_q: f.b,
+        ack_q: f.c,
+        jitter_q: f.d,
+        s_max: f.e,
+        fill: fill_of(f),
+    }
+}
+
+fn log_words(d: &Desk) -> usize {
+    if get(d, LOG, 0) == 0 {
+        return 24576;
+    }
+    get(d, LOG, 1) as usize
 }
 
 // `advance` on the words of rows and log that the case has.
-
-fn advance_all(cfg: Config, rows: &[u64], state: KernelState, log: &mut [u64]) -> Advanced {
-    advance(cfg, rows, state, log)
-}
-
 fn advance_on(
     cfg: Config,
     rows: &[u64],
@@ -57,55 +81,43 @@ fn advance_on(
 ) -> Advanced {
     let w = least(row_words, rows.len());
     let l = least(log_words, log.len());
-    advance_all(cfg, &rows[..w], state, &mut log[..l])
+    advance(cfg, &rows[..w], state, &mut log[..l])
 }
 
-fn sum_counts(a: u64, b: u64) -> u64 {
-    let sum = checked_add(a, b);
-    match sum {
-        MaybeU64::None => u64::MAX,
-        MaybeU64::Some(n) => n,
-    }
+fn advanced(d: &Desk, log: &mut Log) -> Advanced {
+    let cfg = config_of(fields_at(d, GIVEN, 0));
+    let words = get(d, ROWS, 0) as usize;
+    advance_on(cfg, d, words, state_on(d), log, log_words(d))
 }
 
-fn advanced(g: Given, r: &Reader, log: &mut Log, t: Ran) -> Ran {
-    let cfg = g.cfg;
-    let before = t.state;
-    let a = advance_on(cfg, r, g.rows, before, log, g.log);
+// What a call came to: the answer, and the events raised.
+struct Ran {
+    answer: u64,
+    raised: u64,
+}
+
+fn call_advance(d: &mut Desk, log: &mut Log) -> Ran {
+    let a = advanced(d, log);
     let answer = a.answer;
-    let number = answer.number();
-    let state = a.state;
+    set_state(d, a.state);
     Ran {
-        more: number == 0 && !is_ended(state),
-        answer: number,
+        answer: answer.number(),
         raised: a.events,
-        count: sum_counts(t.count, a.events),
-        sum: t.sum,
-        state,
     }
 }
 
-fn passed(t: Ran) -> Ran {
-    let before = t.state;
-    let p = pass(before);
+fn call_pass(d: &mut Desk) -> u64 {
+    let p = pass(state_on(d));
     let answer = p.answer;
-    let number = answer.number();
-    let state = p.state;
-    Ran {
-        more: number == 0,
-        answer: number,
-        raised: t.raised,
-        count: t.count,
-        sum: t.sum,
-        state,
-    }
+    set_state(d, p.state);
+    answer.number()
 }
 
-// The events that a log of these words holds whole, of those raised.
-fn kept(raised: u64, words: usize) -> usize
+// The events that the log holds whole, of those raised.
+fn kept(d: &Desk, raised: u64) -> usize
     ensures { λ r. ⌜ 12 * r ≤ 24576 ⌝ }
 {
-    let room = least(words, 24576) / 12;
+    let room = least(log_words(d), 24576) / 12;
     if raised < room as u64 {
         return raised as usize;
     }
@@ -133,117 +145,95 @@ fn sum_events(sum: u64, log: &Log, events: usize) -> u64
     s
 }
 
-// One `advance`, which has the whole log, and one `pass`.
-fn turn(g: Given, r: &Reader, log: &mut Log, t: Ran) -> Ran {
-    let mut a = advanced(g, r, log, t);
-    a.sum = sum_events(a.sum, log, kept(a.raised, g.log));
-    if a.more {
-        return passed(a);
-    }
-    a
+// What is written of a call: which it was, the answer, the events raised, and those kept or their sum.
+fn set_ran(d: &mut Desk, call: u64, ran: Ran, last: u64) {
+    set_row(d, RAN, short_row(call, ran.answer, ran.raised, last), 4);
 }
 
-// Until Terminal or a refusal. The turns are counted, to a number that no run reaches.
-fn by_turns(g: Given, r: &Reader, log: &mut Log, start: Ran) -> Ran {
-    let mut t = start;
+// `advance`, which has the whole log, and `pass`, until Terminal or a refusal. The turns are counted, to a number that no run reaches.
+fn by_turns(d: &mut Desk, log: &mut Log) {
+    let mut all = Ran {
+        answer: 0,
+        raised: 0,
+    };
+    let mut sum = 0xcbf2_9ce4_8422_2325;
     for _ in 0..u64::MAX {
-        if !t.more {
+        let a = call_advance(d, log);
+        all.answer = a.answer;
+        all.raised = std::num::wrapping_add_u64(all.raised, a.raised);
+        sum = sum_events(sum, log, kept(d, a.raised));
+        if a.answer != 0 || get(d, HEAD, 0) == 5 {
             break;
         }
-        t = turn(g, r, log, t);
+        all.answer = call_pass(d);
+        if all.answer != 0 {
+            break;
+        }
+    }
+    set_ran(d, 2, all, sum);
+}
+
+fn put_event(d: &mut Desk, text: Text, log: &Log, event: usize) -> Text
+    requires { ⌜ 12 * event + 12 ≤ 24576 ⌝ }
+{
+    for k in 0..12usize {
+        set(d, EVENT, k, log[12 * event + k]);
+    }
+    pass_at(d, text, EVENT, EVENT_LINE)
+}
+
+fn put_events(d: &mut Desk, text: Text, log: &Log, events: usize) -> Text
+    requires { ⌜ 12 * events ≤ 24576 ⌝ }
+{
+    let mut t = text;
+    for i in 0..events {
+        t = put_event(d, t, log, i);
     }
     t
 }
 
-fn run_call(call: u64, g: Given, r: &Reader, log: &mut Log, state: KernelState) -> Ran {
-    let t = Ran {
-        more: true,
+// One `advance` or one `pass`, and the events that the log holds.
+fn put_one(d: &mut Desk, text: Text, call: u64, log: &mut Log) -> Text {
+    let mut ran = Ran {
         answer: 0,
         raised: 0,
-        count: 0,
-        sum: 0xcbf2_9ce4_8422_2325,
-        state,
     };
-    match call {
-        0 => advanced(g, r, log, t),
-        1 => passed(t),
-        _ => by_turns(g, r, log, t),
+    if call == 0 {
+        ran = call_advance(d, log);
+    } else {
+        ran.answer = call_pass(d);
     }
+    let n = kept(d, ran.raised);
+    set_ran(d, call, ran, n as u64);
+    let t = pass_at(d, text, RAN, RAN_LINES);
+    put_events(d, t, log, n)
 }
 
-fn event_fields(log: &Log, event: usize) -> Fields
-    requires { ⌜ 12 * event + 12 ≤ 24576 ⌝ }
-{
-    let mut f = [0u64; 15];
-    for k in 0..12usize {
-        f[k] = log[12 * event + k];
-    }
-    f
-}
-
-fn put_events(out: &mut Writer, log: &Log, events: usize)
-    requires { ⌜ 12 * events ≤ 24576 ⌝ }
-{
-    for i in 0..events {
-        print(
-            out,
-            b"event N N N N N N N N N N N N\n",
-            event_fields(log, i),
-        );
-    }
-}
-
-// Of calls by turns only the sum of the events is written.
-fn put_ran(out: &mut Writer, call: u64, t: Ran, log: &Log, words: usize) {
+// A call and its outcome. Of calls by turns only the sum of the events is written.
+fn put_call(d: &mut Desk, text: Text, call: u64, log: &mut Log) -> Text {
     if call == 2 {
-        print(
-            out,
-            b"answer N\ncount N\nsum N\n",
-            three(t.answer, t.count, t.sum),
-        );
-        return;
+        by_turns(d, log);
+        return pass_at(d, text, RAN, SUMMED_LINES);
     }
-    let n = kept(t.raised, words);
-    print(
-        out,
-        b"answer N\ncount N\nkept N\n",
-        three(t.answer, t.count, word(n)),
-    );
-    put_events(out, log, n);
+    put_one(d, text, call, log)
 }
 
-// A call, and the state after it.
-fn put_call(
-    out: &mut Writer,
-    call: u64,
-    g: Given,
-    r: &Reader,
-    log: &mut Log,
-    state: KernelState,
-) -> KernelState {
-    print(out, b"call N\n", three(call, 0, 0));
-    let t = run_call(call, g, r, log, state);
-    put_ran(out, call, t, log, g.log);
-    let after = t.state;
-    put_state(out, after);
-    after
-}
-
-fn put_name(out: &mut Writer, r: &Reader, length: usize) {
-    print(out, b"case ", three(0, 0, 0));
+fn put_name(d: &mut Desk, text: Text) -> Text {
+    let mut t = pass_format(d, text, CASE_WORD);
+    let length = get(d, NAME, 0) as usize;
     for i in 0..least(length, MOST_NAME) {
-        put(out, r[NAME + i]);
+        t = put(d, t, get(d, NAME, i + 1));
     }
-    print(out, b"\n", three(0, 0, 0));
+    put(d, t, 10)
 }
 
-// The outcome of a case, whose name, rows and calls the reader holds.
-pub fn run_case(out: &mut Writer, c: Case, r: &Reader, log: &mut Log) {
-    put_name(out, r, c.name);
-    let g = c.given;
-    let mut state = c.state;
-    for i in 0..least(c.calls, MOST_CALLS) {
-        state = put_call(out, r[CALLS + i], g, r, log, state);
+// The outcome of the case that stands on the desk: after each call the state.
+pub fn run_case(d: &mut Desk, text: Text, log: &mut Log) -> Text {
+    let mut t = put_name(d, text);
+    let calls = get(d, CALLS, 0) as usize;
+    for i in 0..least(calls, MOST_CALLS) {
+        t = put_call(d, t, get(d, CALLS, i + 1), log);
+        t = pass_state(d, t);
     }
-    print(out, b"end\n", three(0, 0, 0));
+    pass_format(d, t, END_LINE)
 }

@@ -1,15 +1,4 @@
-// The lists as text: each a line with its count, then a line for each entry below the count and the capacity.
-use super::input::Fields;
-use super::input::Reader;
-use super::input::check;
-use super::input::hold;
-use super::input::least;
-use super::input::scan;
-use super::input::size;
-use super::input::word;
-use super::output::Writer;
-use super::output::print;
-use super::output::three;
+// The lists' entries as numbers, and the lists from and to the desk.
 use account::AgentAccount;
 use book::Delivery;
 use book::ExecKind;
@@ -25,28 +14,28 @@ use book::Side;
 use book::VenueMsg;
 use book::VenueOrder;
 use book::flag_number;
+use casetext::desk::ACCOUNT;
+use casetext::desk::AWAITING;
+use casetext::desk::DELIVERIES;
+use casetext::desk::Desk;
+use casetext::desk::Fields;
+use casetext::desk::MSGS;
+use casetext::desk::OBSERVED;
+use casetext::desk::ORDERS;
+use casetext::desk::Row;
+use casetext::desk::cell;
+use casetext::desk::fields_at;
+use casetext::desk::get;
+use casetext::desk::least;
+use casetext::desk::set;
+use casetext::desk::set_row;
 use deliveries::Deliveries;
 use msgs::Msgs;
 use observed::Observed;
 use orders::Orders;
+use state::KernelState;
 
-const ORDER: [u8; 22] = *b"order N N N N N N N N\n";
-
-// A message: time, sequence and kind, then an order and its life. One that has only an order's id has zeros behind it.
-const MSG: [u8; 9] = *b"msg N N N";
-
-const KIND: [u8; 19] = *b" N N N N N N N N N\n";
-
-// A delivery: the time and the report, then whether there is a fill's record, and it or zeros.
-const REPORT: [u8; 32] = *b"delivery N N N N N N N N N N N N";
-
-const FILL: [u8; 15] = *b" N N N N N N N\n";
-
-const OBS: [u8; 8] = *b"obs N N\n";
-
-const OPEN: [u8; 9] = *b"open N N\n";
-
-// The enums by their numbers. The last case stands for a number that is none of theirs: what is read is checked by its numbers.
+// The enums by their numbers. The last case stands for any other number: what is read is held to its kind.
 
 fn side_of(n: u64) -> Side {
     if n == 0 { Side::Buy } else { Side::Sell }
@@ -87,23 +76,47 @@ fn exec_of(n: u64) -> ExecKind {
     }
 }
 
+// The first numbers of an entry, and zeros.
+pub fn short_row(a: u64, b: u64, c: u64, d: u64) -> Row {
+    [a, b, c, d, 0, 0, 0, 0, 0, 0, 0, 0, 0, 0, 0, 0, 0, 0, 0]
+}
+
+fn no_fields() -> Fields {
+    Fields {
+        a: 0,
+        b: 0,
+        c: 0,
+        d: 0,
+        e: 0,
+        f: 0,
+        g: 0,
+        h: 0,
+        i: 0,
+        j: 0,
+        k: 0,
+        l: 0,
+        m: 0,
+        n: 0,
+        o: 0,
+    }
+}
+
 // Orders.
 
 fn order_of(f: Fields) -> VenueOrder {
     VenueOrder {
-        id: f[0],
-        side: side_of(f[1]),
-        price: f[2],
-        qty: f[3],
-        filled: f[4],
-        state: order_state_of(f[5]),
-        active_after_ns: f[6],
-        cancel_inflight: f[7] == 1,
+        id: f.a,
+        side: side_of(f.b),
+        price: f.c,
+        qty: f.d,
+        filled: f.e,
+        state: order_state_of(f.f),
+        active_after_ns: f.g,
+        cancel_inflight: f.h == 1,
     }
 }
 
-// Its numbers, and the life that stands behind them in a message.
-fn order_fields(o: VenueOrder, life: u64) -> Fields {
+fn order_row(o: VenueOrder) -> Row {
     let side = o.side;
     let state = o.state;
     [
@@ -115,7 +128,11 @@ fn order_fields(o: VenueOrder, life: u64) -> Fields {
         order_state_number(state),
         o.active_after_ns,
         flag_number(o.cancel_inflight),
-        life,
+        0,
+        0,
+        0,
+        0,
+        0,
         0,
         0,
         0,
@@ -125,125 +142,172 @@ fn order_fields(o: VenueOrder, life: u64) -> Fields {
     ]
 }
 
-fn read_order(r: &mut Reader) -> VenueOrder {
-    let f = scan(r, &ORDER);
-    let o = order_of(f);
-    check(r, f, order_fields(o, 0));
-    o
-}
-
-pub fn read_orders(r: &mut Reader, name: &[u8]) -> Orders {
-    let f = scan(r, name);
+pub fn orders_at(d: &Desk, at: usize) -> Orders {
     let mut list = Orders::new();
-    list.count = size(f[0]);
-    for i in 0..least(list.count, orders::CAPACITY) {
-        let o = read_order(r);
+    list.count = get(d, at, 0) as usize;
+    for i in 0..least(list.count, 8) {
+        let o = order_of(fields_at(d, at, 1 + i * 8));
         list.slots[i] = o;
     }
     list
 }
 
-fn put_order(out: &mut Writer, o: VenueOrder) {
-    print(out, &ORDER, order_fields(o, 0));
-}
-
-pub fn put_orders(out: &mut Writer, name: &[u8], list: Orders) {
-    print(out, name, three(word(list.count), 0, 0));
-    for i in 0..least(list.count, orders::CAPACITY) {
-        put_order(out, list.slots[i]);
-    }
-}
-
-// Messages.
+// Messages: time, sequence and kind, then an order and its life, or an id alone.
 
 fn kind_of(n: u64, f: Fields) -> MsgKind {
     if n == 0 {
         let order = order_of(f);
-        return MsgKind::Activate { order, life: f[8] };
+        return MsgKind::Activate { order, life: f.i };
     }
     if n == 1 {
-        return MsgKind::Cancel { id: f[0] };
+        return MsgKind::Cancel { id: f.a };
     }
-    MsgKind::Expire { id: f[0] }
+    MsgKind::Expire { id: f.a }
 }
 
-fn kind_number(kind: MsgKind) -> u64 {
-    match kind {
-        MsgKind::Cancel { id: _ } => 1,
-        MsgKind::Activate { order: _, life: _ } => 0,
-        MsgKind::Expire { id: _ } => 2,
-    }
-}
-
-fn kind_fields(kind: MsgKind) -> Fields {
-    match kind {
-        MsgKind::Cancel { id } => three(id, 0, 0),
-        MsgKind::Activate { order, life } => order_fields(order, life),
-        MsgKind::Expire { id } => three(id, 0, 0),
-    }
-}
-
-fn read_msg(r: &mut Reader) -> VenueMsg {
-    let f = scan(r, &MSG);
-    hold(r, f[2] <= 2);
-    let g = scan(r, &KIND);
-    let kind = kind_of(f[2], g);
-    check(r, g, kind_fields(kind));
+fn msg_of(f: Fields, g: Fields) -> VenueMsg {
     VenueMsg {
-        eff_ns: f[0],
-        seq: f[1],
-        kind,
+        eff_ns: f.a,
+        seq: f.b,
+        kind: kind_of(f.c, g),
     }
 }
 
-pub fn read_msgs(r: &mut Reader) -> Msgs {
-    let f = scan(r, b"msgs N\n");
+fn msg_row(m: VenueMsg) -> Row {
+    let kind = m.kind;
+    match kind {
+        MsgKind::Cancel { id } => short_row(m.eff_ns, m.seq, 1, id),
+        MsgKind::Activate { order, life } => {
+            let side = order.side;
+            let state = order.state;
+            [
+                m.eff_ns,
+                m.seq,
+                0,
+                order.id,
+                side.number(),
+                order.price,
+                order.qty,
+                order.filled,
+                order_state_number(state),
+                order.active_after_ns,
+                flag_number(order.cancel_inflight),
+                life,
+                0,
+                0,
+                0,
+                0,
+                0,
+                0,
+                0,
+            ]
+        }
+        MsgKind::Expire { id } => short_row(m.eff_ns, m.seq, 2, id),
+    }
+}
+
+pub fn msgs_at(d: &Desk) -> Msgs {
     let mut list = Msgs::new();
-    list.count = size(f[0]);
-    for i in 0..least(list.count, msgs::CAPACITY) {
-        let m = read_msg(r);
+    list.count = get(d, MSGS, 0) as usize;
+    for i in 0..least(list.count, 16) {
+        let m = msg_of(
+            fields_at(d, MSGS, 1 + i * 12),
+            fields_at(d, MSGS, 4 + i * 12),
+        );
         list.slots[i] = m;
     }
     list
 }
 
-fn put_msg(out: &mut Writer, m: VenueMsg) {
-    let kind = m.kind;
-    print(out, &MSG, three(m.eff_ns, m.seq, kind_number(kind)));
-    print(out, &KIND, kind_fields(kind));
-}
-
-pub fn put_msgs(out: &mut Writer, list: Msgs) {
-    print(out, b"msgs N\n", three(word(list.count), 0, 0));
-    for i in 0..least(list.count, msgs::CAPACITY) {
-        put_msg(out, list.slots[i]);
-    }
-}
-
-// Deliveries.
+// Deliveries: the time and the report, then whether there is a fill's record, and it.
 
 fn report_of(f: Fields) -> ReportRec {
     ReportRec {
-        ts_ns: f[1],
-        seq: f[2],
-        order_id: f[3],
-        side: side_of(f[4]),
-        kind: exec_of(f[5]),
-        origin: origin_of(f[6]),
-        cancel_pending: f[7] == 1,
-        price: f[8],
-        qty: f[9],
-        last: f[10],
-        cum: f[11],
+        ts_ns: f.b,
+        seq: f.c,
+        order_id: f.d,
+        side: side_of(f.e),
+        kind: exec_of(f.f),
+        origin: origin_of(f.g),
+        cancel_pending: f.h == 1,
+        price: f.i,
+        qty: f.j,
+        last: f.k,
+        cum: f.l,
     }
 }
 
-fn report_fields(at_ns: u64, p: ReportRec) -> Fields {
+fn fill_of(f: Fields) -> MaybeFill {
+    if f.a == 0 {
+        return MaybeFill::None;
+    }
+    MaybeFill::Some(FillRec {
+        ts_ns: f.b,
+        exec_id: f.c,
+        order_id: f.d,
+        side: side_of(f.e),
+        price: f.f,
+        qty: f.g,
+    })
+}
+
+fn delivery_of(f: Fields, g: Fields) -> Delivery {
+    Delivery {
+        at_ns: f.a,
+        report: report_of(f),
+        fill: fill_of(g),
+    }
+}
+
+pub fn deliveries_at(d: &Desk) -> Deliveries {
+    let mut list = Deliveries::new();
+    list.count = get(d, DELIVERIES, 0) as usize;
+    for i in 0..least(list.count, 24) {
+        let one = delivery_of(
+            fields_at(d, DELIVERIES, 1 + i * 19),
+            fields_at(d, DELIVERIES, 13 + i * 19),
+        );
+        list.slots[i] = one;
+    }
+    list
+}
+
+// The fill's part of the row, zeros where there is none.
+fn fill_row(fill: MaybeFill) -> Fields {
+    match fill {
+        MaybeFill::None => no_fields(),
+        MaybeFill::Some(f) => {
+            let side = f.side;
+            Fields {
+                a: 1,
+                b: f.ts_ns,
+                c: f.exec_id,
+                d: f.order_id,
+                e: side.number(),
+                f: f.price,
+                g: f.qty,
+                h: 0,
+                i: 0,
+                j: 0,
+                k: 0,
+                l: 0,
+                m: 0,
+                n: 0,
+                o: 0,
+            }
+        }
+    }
+}
+
+fn delivery_row(x: Delivery) -> Row {
+    let p = x.report;
+    let fill = x.fill;
     let side = p.side;
     let kind = p.kind;
     let origin = p.origin;
+    let f = fill_row(fill);
     [
-        at_ns,
+        x.at_ns,
         p.ts_ns,
         p.seq,
         p.order_id,
@@ -255,155 +319,106 @@ fn report_fields(at_ns: u64, p: ReportRec) -> Fields {
         p.qty,
         p.last,
         p.cum,
-        0,
-        0,
-        0,
+        f.a,
+        f.b,
+        f.c,
+        f.d,
+        f.e,
+        f.f,
+        f.g,
     ]
-}
-
-fn fill_of(f: Fields) -> MaybeFill {
-    if f[0] == 0 {
-        return MaybeFill::None;
-    }
-    MaybeFill::Some(FillRec {
-        ts_ns: f[1],
-        exec_id: f[2],
-        order_id: f[3],
-        side: side_of(f[4]),
-        price: f[5],
-        qty: f[6],
-    })
-}
-
-fn fill_fields(fill: MaybeFill) -> Fields {
-    match fill {
-        MaybeFill::None => three(0, 0, 0),
-        MaybeFill::Some(f) => {
-            let side = f.side;
-            [
-                1,
-                f.ts_ns,
-                f.exec_id,
-                f.order_id,
-                side.number(),
-                f.price,
-                f.qty,
-                0,
-                0,
-                0,
-                0,
-                0,
-                0,
-                0,
-                0,
-            ]
-        }
-    }
-}
-
-fn read_delivery(r: &mut Reader) -> Delivery {
-    let f = scan(r, &REPORT);
-    let report = report_of(f);
-    check(r, f, report_fields(f[0], report));
-    let g = scan(r, &FILL);
-    let fill = fill_of(g);
-    check(r, g, fill_fields(fill));
-    Delivery {
-        at_ns: f[0],
-        report,
-        fill,
-    }
-}
-
-pub fn read_deliveries(r: &mut Reader) -> Deliveries {
-    let f = scan(r, b"deliveries N\n");
-    let mut list = Deliveries::new();
-    list.count = size(f[0]);
-    for i in 0..least(list.count, deliveries::CAPACITY) {
-        let d = read_delivery(r);
-        list.slots[i] = d;
-    }
-    list
-}
-
-fn put_delivery(out: &mut Writer, d: Delivery) {
-    let report = d.report;
-    let fill = d.fill;
-    print(out, &REPORT, report_fields(d.at_ns, report));
-    print(out, &FILL, fill_fields(fill));
-}
-
-pub fn put_deliveries(out: &mut Writer, list: Deliveries) {
-    print(out, b"deliveries N\n", three(word(list.count), 0, 0));
-    for i in 0..least(list.count, deliveries::CAPACITY) {
-        put_delivery(out, list.slots[i]);
-    }
 }
 
 // Observations and open orders.
 
-fn read_obs(r: &mut Reader) -> ObsEntry {
-    let f = scan(r, &OBS);
-    ObsEntry {
-        ready_ns: f[0],
-        row: f[1],
-    }
-}
-
-pub fn read_observed(r: &mut Reader) -> Observed {
-    let f = scan(r, b"observed N\n");
+pub fn observed_at(d: &Desk) -> Observed {
     let mut list = Observed::new();
-    list.count = size(f[0]);
-    for i in 0..least(list.count, observed::CAPACITY) {
-        let o = read_obs(r);
+    list.count = get(d, OBSERVED, 0) as usize;
+    for i in 0..least(list.count, 16) {
+        let o = ObsEntry {
+            ready_ns: get(d, OBSERVED, 1 + i * 2),
+            row: get(d, OBSERVED, 2 + i * 2),
+        };
         list.slots[i] = o;
     }
     list
 }
 
-fn put_obs(out: &mut Writer, o: ObsEntry) {
-    print(out, &OBS, three(o.ready_ns, o.row, 0));
+fn obs_row(o: ObsEntry) -> Row {
+    short_row(o.ready_ns, o.row, 0, 0)
 }
 
-pub fn put_observed(out: &mut Writer, list: Observed) {
-    print(out, b"observed N\n", three(word(list.count), 0, 0));
-    for i in 0..least(list.count, observed::CAPACITY) {
-        put_obs(out, list.slots[i]);
-    }
-}
-
-fn open_fields(o: OpenOrder) -> Fields {
-    three(o.order_id, flag_number(o.awaiting_cancel_outcome), 0)
-}
-
-fn read_open(r: &mut Reader) -> OpenOrder {
-    let f = scan(r, &OPEN);
-    let o = OpenOrder {
-        order_id: f[0],
-        awaiting_cancel_outcome: f[1] == 1,
-    };
-    check(r, f, open_fields(o));
-    o
-}
-
-pub fn read_account(r: &mut Reader) -> AgentAccount {
-    let f = scan(r, b"account N\n");
+pub fn account_at(d: &Desk) -> AgentAccount {
     let mut list = AgentAccount::new();
-    list.count = size(f[0]);
-    for i in 0..least(list.count, account::CAPACITY) {
-        let o = read_open(r);
+    list.count = get(d, ACCOUNT, 0) as usize;
+    for i in 0..least(list.count, 8) {
+        let o = OpenOrder {
+            order_id: get(d, ACCOUNT, 1 + i * 2),
+            awaiting_cancel_outcome: get(d, ACCOUNT, 2 + i * 2) == 1,
+        };
         list.slots[i] = o;
     }
     list
 }
 
-fn put_open(out: &mut Writer, o: OpenOrder) {
-    print(out, &OPEN, open_fields(o));
+fn open_row(o: OpenOrder) -> Row {
+    short_row(o.order_id, flag_number(o.awaiting_cancel_outcome), 0, 0)
 }
 
-pub fn put_account(out: &mut Writer, list: AgentAccount) {
-    print(out, b"account N\n", three(word(list.count), 0, 0));
-    for i in 0..least(list.count, account::CAPACITY) {
-        put_open(out, list.slots[i]);
+// The lists by the order in which the text has them.
+
+fn entry_row(s: KernelState, list: usize, i: usize) -> Row {
+    match list {
+        0 => {
+            let list = s.orders;
+            order_row(list.slots[i % 8])
+        }
+        1 => {
+            let list = s.msgs;
+            msg_row(list.slots[i % 16])
+        }
+        2 => {
+            let list = s.awaiting;
+            order_row(list.slots[i % 8])
+        }
+        3 => {
+            let list = s.deliveries;
+            delivery_row(list.slots[i % 24])
+        }
+        4 => {
+            let list = s.observed;
+            obs_row(list.slots[i % 16])
+        }
+        _ => {
+            let list = s.account;
+            open_row(list.slots[i % 8])
+        }
     }
+}
+
+// A list to the desk, from its count on.
+fn set_list(
+    d: &mut Desk,
+    s: KernelState,
+    list: usize,
+    at: usize,
+    count: usize,
+    capacity: usize,
+    width: usize,
+) {
+    set(d, at, 0, count as u64);
+    let mut to = cell(at, 1);
+    for i in 0..least(count, capacity) {
+        set_row(d, to, entry_row(s, list, i), width);
+        to = cell(to, width);
+    }
+}
+
+pub fn set_lists(d: &mut Desk, s: KernelState) {
+    set_list(d, s, 0, ORDERS, s.orders.count, 8, 8);
+    set_list(d, s, 1, MSGS, s.msgs.count, 16, 12);
+    set_list(d, s, 2, AWAITING, s.awaiting.count, 8, 8);
+    set_list(d, s, 3, DELIVERIES, s.deliveries.count, 24, 19);
+    set_list(d, s, 4, OBSERVED, s.observed.count, 16, 2);
+    set_list(d, s, 5, ACCOUNT, s.account.count, 8, 2);
 }

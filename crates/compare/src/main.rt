@@ -1,50 +1,63 @@
 // Reads cases on standard input, makes their calls with the kernel, and writes the outcomes on standard output: the case text of docs/COMPARE.md, by which any two implementations of the advance are held side by side.
 // It is a tool: its functions are safe and end, and nothing is claimed of what it reads and writes.
 mod calls;
-mod case;
 mod entries;
-mod input;
-mod output;
-mod state_text;
+mod pieces;
 
+use calls::Log;
 use calls::run_case;
-use case::Log;
-use case::read_case;
-use input::Reader;
-use input::at_end;
-use input::begin;
-use input::is_bad;
-use input::line;
-use output::Writer;
-use output::flush;
-use output::print;
-use output::three;
+use casetext::case::read_case;
+use casetext::desk::Desk;
+use casetext::desk::RAN;
+use casetext::desk::SIZE;
+use casetext::desk::set;
+use casetext::format::BAD_LINE;
+use casetext::format::pass_at;
+use casetext::input::END;
+use casetext::input::Text;
+use casetext::input::step;
+use casetext::output::flush;
 
 // Reads a case and runs it. From a bad line on the text is not read.
-fn one_case(r: &mut Reader, log: &mut Log, out: &mut Writer) {
-    let c = read_case(r);
-    if is_bad(r) {
-        print(out, b"bad N\n", three(line(r), 0, 0));
-        return;
+fn one_case(d: &mut Desk, text: Text, log: &mut Log) -> Text {
+    let mut t = read_case(d, text);
+    t.writes = true;
+    if t.bad {
+        set(d, RAN, 0, t.line);
+        return pass_at(d, t, RAN, BAD_LINE);
     }
-    run_case(out, c, r, log);
+    t = run_case(d, t, log);
+    t.writes = false;
+    t
 }
 
 // A proved loop has to end, and nothing says that the text does, so the turns are counted, to a number that no text reaches.
-fn all_cases(r: &mut Reader, log: &mut Log, out: &mut Writer) {
+fn all_cases(d: &mut Desk, text: Text, log: &mut Log) -> Text {
+    let mut t = text;
     for _ in 0..u64::MAX {
-        if is_bad(r) || at_end(r) {
+        if t.bad || t.byte == END {
             break;
         }
-        one_case(r, log, out);
+        t = one_case(d, t, log);
     }
+    t
 }
 
 fn main() {
-    let mut r = [0u64; 24852];
+    let mut d = [0u64; SIZE];
     let mut log = [0u64; 24576];
-    let mut out = [0u64; 4097];
-    begin(&mut r);
-    all_cases(&mut r, &mut log, &mut out);
-    flush(&mut out);
+    let start = Text {
+        byte: 0,
+        line: 1,
+        at: 0,
+        upto: 0,
+        bad: false,
+        length: 0,
+        writes: false,
+        cell: 0,
+        unused: false,
+    };
+    let first = step(&mut d, start);
+    let last = all_cases(&mut d, first, &mut log);
+    flush(&d, last.length);
 }

@@ -7,11 +7,9 @@ use Rattle.compare.proofs.calls.put_events.Tie as tie
 pub put-events-spec : {M : Type 1} → statement M
 put-events-spec =
     tie.close (tie.spec
-    (λ out₀ log events i₀ t5 out i. Unit {0})
-    (λ out₀ log events i₀ t5 out i. 18446744073709551615 - i)
+    (λ d₀ log events t₀ i₀ d t i. Unit {0})
+    (λ d₀ log events t₀ i₀ d t i. 18446744073709551615 - i)
     (λ c. search needs)
-    (λ c. search needs)
-    (λ c κs. search needs)
     (λ c κs. search needs)
     (λ c. search needs)
     (λ c. search needs)

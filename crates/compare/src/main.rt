@@ -1,22 +1,27 @@
 // Reads cases on standard input, makes their calls with the kernel, and writes the outcomes on standard output: the case text of docs/COMPARE.md, by which any two implementations of the advance are held side by side.
 // It is a tool: its functions are safe and end, and nothing is claimed of what it reads and writes.
 mod calls;
+mod case;
+mod desk;
 mod entries;
+mod format;
+mod input;
+mod output;
 mod pieces;
 
 use calls::Log;
 use calls::run_case;
-use casetext::case::read_case;
-use casetext::desk::Desk;
-use casetext::desk::RAN;
-use casetext::desk::SIZE;
-use casetext::desk::set;
-use casetext::format::BAD_LINE;
-use casetext::format::pass_at;
-use casetext::input::END;
-use casetext::input::Text;
-use casetext::input::step;
-use casetext::output::flush;
+use case::read_case;
+use desk::Desk;
+use desk::RAN;
+use desk::SIZE;
+use desk::set;
+use format::BAD_LINE;
+use format::pass_at;
+use input::END;
+use input::Text;
+use input::step;
+use output::flush;
 
 // Reads a case and runs it. From a bad line on the text is not read.
 fn one_case(d: &mut Desk, text: Text, log: &mut Log) -> Text {

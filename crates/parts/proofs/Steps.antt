@@ -1,19 +1,19 @@
 -- The steps of `batch::run` over the state in parts: lists that change in place, and one law for each step that a path alone does not answer. Assumes nothing.
 use Prim.Native.Nat.{ℕ, zero, suc, _+_, _-_, _*_, _≤_, _<_}
-use mathlib.Core.Bool.{Bool, true, false, _&&_}
+use mathlib.Core.Bool.{false, _&&_}
 use mathlib.Core.List.{List, [], _∷_}
-use mathlib.Core.Option.{Option, none, some}
+use mathlib.Core.Option.{Option, some}
 use mathlib.Core.Logic.{⊎-elim}
-use mathlib.Core.Path.{_≡_, refl, sym, ap, _∙_, subst}
+use mathlib.Core.Path.{_≡_, refl, sym, ap, _∙_}
 use native.Mathlib.Omega.{arith}
 use lib.Dec.{ltb, leb}
 use lib.ListN.{length, getD, set}
-use borrow.Author.Tests.{leb-true, ltb-true, ltb-false, lt-ltb, le-ltb, le-leb}
+use borrow.Author.Tests.{leb-true, ltb-true, ltb-false, lt-ltb, le-ltb}
 use types.Run.{OneOf}
 use denote.Enum.Declared.{tagOf}
 use Rattle.numbers.specs.Choice.{pick}
 use Rattle.numbers.specs.Words.{fitting}
-use Rattle.lists.specs.Lists.{Row, Put, Taken, entryAt, popped, pushed, storeAt}
+use Rattle.lists.specs.Lists.{Row, Put, Taken, entryAt, popped, storeAt}
 use Rattle.lists.proofs.Cases.{pick-case}
 use Rattle.lists.proofs.Exits.{take-in, push-in, put-full, store-in}
 use Rattle.lists.proofs.Loops.{Removing}
@@ -35,12 +35,10 @@ use Rattle.deliveries.specs.declared.MaybeDelivery.the-variants as sent
 use Rattle.observed.specs.declared.Observed.{Observed}
 use Rattle.account.specs.declared.AgentAccount.{AgentAccount}
 use Rattle.state.specs.declared.AgentView.{AgentView}
-use Rattle.state.specs.declared.Clock.{Clock}
 use Rattle.state.specs.declared.Control.{Control}
 use Rattle.state.specs.declared.KernelState.{KernelState}
 use Rattle.state.specs.declared.Phase.{Phase}
 use Rattle.state.specs.declared.Phase.the-variants.{BeforeMatch, ObsQueued, AwaitDecision, Terminal}
-use Rattle.state.specs.declared.Seqs.{Seqs}
 use Rattle.rules.specs.Run as rules
 use Rattle.rules.specs.Batch.{callRecords, isStay}
 use Rattle.rules.specs.Calls.{Answer, pass, countsFit, isPaused, canResume}
@@ -66,7 +64,6 @@ use Rattle.reports.proofs.Then.{Stopped, state-is, expected-halt, then-then, th
 use Rattle.entry.specs.Entry.{againAs}
 use Rattle.entry.specs.declared.Again.{Again}
 use Rattle.entry.specs.declared.Again.the-variants.{Stop, With}
-use Rattle.entry.proofs.EntryExits.{pass-is, pass-waits}
 use Rattle.walk.specs.Events.{withLooked, lookedIn, seen}
 use Rattle.walk.specs.declared.Looked.{Looked}
 use Rattle.walk.proofs.EventsExits.{seen-pops}
@@ -106,11 +103,6 @@ module _ {A : Type 0} (cap : ℕ) (d : A) (r : Row A) where
       (λ b e. let g : getD (r .slots) i d ≡ x = cc in (ltb-true _ _ b, leb-true _ _ a, g))
       (λ b e. let z : _≡_ {A = ℕ} 0 1 = cc in absurd (omega arith)))
       (λ a e. let z : _≡_ {A = ℕ} 0 1 = cc in absurd (omega arith))
-
-  -- one that is not there, where the count is above 0 and within the capacity, is not the first
-  pub first-is : entryAt cap d 0 r ≡ none → 0 < r .count → r .count ≤ cap → ⊥
-  unfolding entryAt pick
-  first-is e h k = let z : _≡_ {A = ℕ} 0 1 = cc (rw (le-leb _ _ k, lt-ltb _ _ h) at e) in omega arith
 
   -- the first entry leaves, in place
   module _ (x : A) (e : entryAt cap d 0 r ≡ some x) (b : A) (h : b ≡ d) {i : ℕ} {l : List A} (k : r .count - 1 ≤ i) (R : Removing d 0 (r .count) (r .slots) i l) where

@@ -189,16 +189,6 @@ pub end-stops : (l : Log) (s : KernelState) (a : Step) (w : List ℕ) → actual
 unfolding expected endOfData
 end-stops l s a w e = subst Stopped (sym (ap (λ (x : StepResult). x .outcome) e)) (then-stops _ closeData close-stops)
 
--- ---- the caller: a step that ran, and one in whose place nothing was done. The variables are equal to what it left, where they meet
-pub goes-ran : (l : Log) (r : rules.Run) (a : Step) (v : List ℕ) → actual a v ≡ expected l r → a .outcome ≡ Ran
-    → {w1 : List ℕ} {s1 : KernelState} {n1 : ℕ} → w1 ≡ v → s1 ≡ a .state → n1 ≡ a .raised → Goes l r s1 (logAt w1 n1)
-goes-ran l r a v e h p q m k = rw (p, q, m) (sym (then-ran l r k a v e h))
-
-pub goes-none : (w : List ℕ) (n : ℕ) (r : rules.Run) (s : KernelState) → r ≡ rules.ranTo s
-    → {w1 : List ℕ} {s1 : KernelState} {n1 : ℕ} → w1 ≡ w → s1 ≡ s → n1 ≡ n → Goes (logAt w n) r s1 (logAt w1 n1)
-unfolding rules.andThen
-goes-none w n r s e p q m k = rw (p, q, m, e)
-
 -- ---- the caller: the work on a row is its walk, then what stands behind it
 abbrev pub behind : Work → Config → List ℕ → ℕ → KernelTick → KernelState → rules.Run
 behind Match cfg rows i row t = rules.andThen (matchRow cfg row (clockTo (row .«ts_ns») t)) (queueObservation cfg i row)
@@ -208,13 +198,6 @@ pub worked-is : (x : Work) (cfg : Config) (rows : List ℕ) (i : ℕ) (row : Ker
 unfolding matchPhase settleRow
 worked-is Match cfg rows i row s = refl
 worked-is Settle cfg rows i row s = then-then (runEvents cfg (row .«ts_ns») s) _ (nextRow cfg rows)
-
--- it stopped: what it left is all of the turn
-pub walk-left : (cfg : Config) (rows : List ℕ) (i : ℕ) (row : KernelTick) (s : KernelState) (l : Log) (a : Step) (w : List ℕ) → actual a w ≡ expected l (runEvents cfg (row .«ts_ns») s)
-    → Stopped (a .outcome) → (x : Work) → actual a w ≡ expected l (worked x cfg rows i row s)
-unfolding matchPhase settleRow
-walk-left cfg rows i row s l a w e m Match = then-stop l (runEvents cfg (row .«ts_ns») s) _ a w e m
-walk-left cfg rows i row s l a w e m Settle = then-stop l (settleRow cfg i row s) (nextRow cfg rows) a w (then-stop l (runEvents cfg (row .«ts_ns») s) _ a w e m) m
 
 -- ---- the caller: the next row
 module _ (l : Log) (cfg : Config) (rows : List ℕ) (s : KernelState) (r : Onward) (e : onwardTo r s ≡ nextRow cfg rows s) where
@@ -309,10 +292,3 @@ again-not-paused cfg rows s r = go (s .control .phase)
     go ObsQueued e = refl
     go AwaitDecision e = let z : _≡_ {A = ℕ} 0 1 = cc in absurd (omega arith)
     go Terminal e = refl
-
-module _ (cfg : Config) (rows : List ℕ) (s : KernelState) (control : Control) where
-  pub row-not-paused : (w : Work) (i : ℕ) (row : KernelTick) → turnBy (Row w i row) cfg rows (withControl s control) ≡ phaseTurn cfg rows (withControl s control) → isPaused (control .phase) ≡ false
-  row-not-paused w i row e = again-not-paused cfg rows (withControl s control) (worked w cfg rows i row (withControl s control)) (sym e)
-
-  pub fail-not-paused : turnBy Fail cfg rows (withControl s control) ≡ phaseTurn cfg rows (withControl s control) → isPaused (control .phase) ≡ false
-  fail-not-paused e = again-not-paused cfg rows (withControl s control) (rules.haltAt CounterOverflow (withControl s control)) (sym e)

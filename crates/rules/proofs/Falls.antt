@@ -191,12 +191,12 @@ module _ {x : ℕ} {p : Phase} {h : ℕ} where
       (λ e. ran-in (less i (z e) k))
 
 -- ---- what is next has a first entry
-abbrev Due : Class → KernelState → Type 0
+abbrev pub Due : Class → KernelState → Type 0
 Due venue s = (0 < s .msgs .count) × (s .msgs .count ≤ 16)
 Due delivery s = (0 < s .deliveries .count) × (s .deliveries .count ≤ 24)
 Due observation s = (0 < s .observed .count) × (s .observed .count ≤ 16)
 
-abbrev NextDue : KernelState → Next → Type 0
+abbrev pub NextDue : KernelState → Next → Type 0
 NextDue s nothing = Unit {0}
 NextDue s (next k t) = Due k s
 
@@ -210,7 +210,7 @@ sooner-ok s nothing b h g = g
 sooner-ok s (next k t) nothing h g = h
 sooner-ok s (next k t) (next j u) h g = pick-case (NextDue s) (leb t u) _ _ (λ _. h) (λ _. g)
 
-next-ok : (limit : ℕ) (s : KernelState) → NextDue s (nextOf limit s)
+pub next-ok : (limit : ℕ) (s : KernelState) → NextDue s (nextOf limit s)
 unfolding nextOf nextMsg nextDelivery nextObservation
 next-ok limit s = sooner-ok s _ _
     (entry-case 16 (NextDue s) blankMsg 0 (msgsRow (s .msgs)) _ _ (λ w z. due-ok limit venue _ s (z, w)) (λ _. tt))

@@ -15,7 +15,7 @@ use Rattle.rules.specs.Phases.{phases}
 use Rattle.rules.specs.Calls.{pass, isPaused}
 use Rattle.rules.specs.Batch.{callRecords, isStay}
 use Rattle.reports.specs.Log.{Log, StepResult, expected}
-use Rattle.reports.specs.declared.Outcome.the-variants.{Ran, Left, Halt, Ended}
+use Rattle.reports.specs.declared.Outcome.the-variants.{Ran, Left, Halt}
 use Rattle.entry.specs.Entry.{againAs}
 use Rattle.entry.specs.declared.Again.the-variants.{Stop, With}
 use Rattle.entry.proofs.EntryExits.{pass-is, pass-waits}
@@ -44,9 +44,6 @@ module _ (c : Config) (rows : List ℕ) (records left b : ℕ) where
 
   pub after-halt : (x : StepResult) (h : HaltReason) → x .outcome ≡ Halt h → afterCall c rows records left b x ≡ finalOf b x
   after-halt x h e = after-stop x (unfold goesFrom in rw e)
-
-  pub after-ended : (x : StepResult) → x .outcome ≡ Ended → afterCall c rows records left b x ≡ finalOf b x
-  after-ended x e = after-stop x (unfold goesFrom in rw e)
 
   -- a call that does not end at a pause
   pub after-still : (x : StepResult) → isPaused (x .state .control .phase) ≡ false → afterCall c rows records left b x ≡ finalOf b x

@@ -3,21 +3,14 @@ use Prim.Native.Nat.{ℕ, _<_, _≤_, max}
 use mathlib.Core.List.{List}
 use mathlib.Core.Option.{Option, none, some}
 use mathlib.Core.Path.{_≡_, sym, ap, _∙_, subst}
-use native.Mathlib.Omega.{arith}
-use lib.Dec.{leb}
 use borrow.Author.Tests.{lt-leb, le-leb}
 use Rattle.numbers.specs.Choice.{pick}
 use Rattle.numbers.specs.declared.MaybeU64.the-variants as u64
-use Rattle.lists.specs.Lists.{Taken, onSome, popped}
-use Rattle.lists.proofs.Cases.{pick-case}
-use Rattle.lists.proofs.Sums.{take-case, entry-case}
-use Rattle.book.specs.Capacities.{msgsCapacity, deliveriesCapacity, observedCapacity}
-use Rattle.book.specs.Entries.{blankMsg, blankDelivery, blankObs}
-use Rattle.deliveries.specs.Rows.{deliveriesRow}
-use Rattle.msgs.specs.Rows.{msgsRow}
+use Rattle.lists.specs.Lists.{onSome, popped}
+use Rattle.book.specs.Capacities.{deliveriesCapacity, observedCapacity}
+use Rattle.book.specs.Entries.{blankObs}
 use Rattle.observed.specs.Rows.{observedRow}
 use Rattle.state.specs.With.{withControl, withClock, withObserved, clockNowNs, agentLastObsRow}
-use Rattle.book.specs.declared.Delivery.{Delivery}
 use Rattle.book.specs.declared.ObsEntry.{ObsEntry}
 use Rattle.book.specs.declared.config.Config.{Config}
 use Rattle.observed.specs.declared.Observed.{Observed}
@@ -28,14 +21,13 @@ use Rattle.state.specs.declared.KernelState.{KernelState}
 use Rattle.rules.specs.Run as rules
 use Rattle.rules.specs.Events as events
 use Rattle.rules.specs.Phases.{phaseTurn}
-use Rattle.rules.proofs.Falls.{event-falls, walk-again, walk-last}
+use Rattle.rules.proofs.Falls.{NextDue, next-ok, event-falls, walk-again, walk-last}
 use Rattle.reports.specs.Log.{logAt, appendEvent, appendEvents, expected, actual}
 use Rattle.reports.specs.declared.Outcome.the-variants.{Ran}
 use Rattle.reports.specs.declared.Step.{Step}
-use Rattle.reports.proofs.Then.{expected-ran, Stopped, then-ran, then-stop, then-then, state-is, ran-too}
+use Rattle.reports.proofs.Then.{Stopped, then-ran, then-stop, then-then, state-is, ran-too}
 use Rattle.walk.specs.Events.{ruleClass, ruleNext, withLooked, lookedIn, seen}
 use Rattle.walk.specs.declared.Class.{Class}
-use Rattle.walk.specs.declared.Class.the-variants as class
 use Rattle.walk.specs.declared.Looked.{Looked}
 use Rattle.walk.specs.declared.Next.{Next}
 use Rattle.walk.specs.declared.Next.the-variants.{Nothing, At}
@@ -110,42 +102,12 @@ unfolding events.nextOf
 soonest limit s m d o later r em ed eo el er = er ∙ rw (em, el, ed, eo)
 
 -- ---- what is next has a first entry
-abbrev Due : events.Class → KernelState → Type 0
-Due events.venue s = (0 < s .msgs .count) × (s .msgs .count ≤ msgsCapacity)
-Due events.delivery s = (0 < s .deliveries .count) × (s .deliveries .count ≤ deliveriesCapacity)
-Due events.observation s = (0 < s .observed .count) × (s .observed .count ≤ observedCapacity)
-
-abbrev DueIn : KernelState → events.Next → Type 0
-DueIn s events.nothing = Unit {0}
-DueIn s (events.next k t) = Due k s
-
-due-in : (limit : ℕ) (k : events.Class) (t : ℕ) (s : KernelState) → Due k s → DueIn s (events.dueBy limit k t)
-unfolding events.dueBy
-due-in limit k t s d = pick-case (DueIn s) (leb t limit) _ _ (λ _. d) (λ _. tt)
-
-sooner-in : (s : KernelState) (a b : events.Next) → DueIn s a → DueIn s b → DueIn s (events.sooner a b)
-unfolding events.sooner
-sooner-in s events.nothing b h g = g
-sooner-in s (events.next k t) events.nothing h g = h
-sooner-in s (events.next k t) (events.next j u) h g = pick-case (DueIn s) (leb t u) _ _ (λ _. h) (λ _. g)
-
 module _ (limit : ℕ) (s : KernelState) where
-  next-in : DueIn s (events.nextOf limit s)
-  unfolding events.nextOf events.nextMsg events.nextDelivery events.nextObservation
-  next-in = sooner-in s _ _
-      (entry-case msgsCapacity (DueIn s) blankMsg 0 (msgsRow (s .msgs)) _ _ (λ w z. due-in limit events.venue _ s (z, w)) (λ _. tt))
-      (sooner-in s _ _
-      (entry-case deliveriesCapacity (DueIn s) blankDelivery 0 (deliveriesRow (s .deliveries)) _ _ (λ w z. due-in limit events.delivery _ s (z, w)) (λ _. tt))
-      (entry-case observedCapacity (DueIn s) blankObs 0 (observedRow (s .observed)) _ _ (λ w z. due-in limit events.observation _ s (z, w)) (λ _. tt)))
-
-  pub due-msg : (t : ℕ) → events.nextOf limit s ≡ events.next events.venue t → (0 < s .msgs .count) × (s .msgs .count ≤ msgsCapacity)
-  due-msg t e = subst (DueIn s) e next-in
-
   pub due-delivery : (t : ℕ) → events.nextOf limit s ≡ events.next events.delivery t → (0 < s .deliveries .count) × (s .deliveries .count ≤ deliveriesCapacity)
-  due-delivery t e = subst (DueIn s) e next-in
+  due-delivery t e = subst (NextDue s) e (next-ok limit s)
 
   pub due-observation : (t : ℕ) → events.nextOf limit s ≡ events.next events.observation t → (0 < s .observed .count) × (s .observed .count ≤ observedCapacity)
-  due-observation t e = subst (DueIn s) e next-in
+  due-observation t e = subst (NextDue s) e (next-ok limit s)
 
 -- ---- the caller's walk: x is next at s
 module _ (cfg : Config) (until : ℕ) (s : KernelState) (x : Next) (e : ruleNext x ≡ events.nextOf until s) (w : List ℕ) (n : ℕ) where
@@ -154,10 +116,7 @@ module _ (cfg : Config) (until : ℕ) (s : KernelState) (x : Next) (e : ruleNext
     unfolding events.eventTurn
     ends = walk-last cfg until s (rules.ranTo s) (rw (← e, h))
 
-    pub walk-done : actual (record { outcome = Ran; state = s; raised = n }) w ≡ expected (logAt w n) (events.runEvents cfg until s)
-    walk-done = expected-ran (logAt w n) s ∙ ap (expected (logAt w n)) (sym ends)
-
-    -- the same, with k behind the walk
+    -- with k behind the walk
     pub walk-done-then : (k : KernelState → rules.Run) → expected (logAt w n) (k s) ≡ expected (logAt w n) (rules.andThen (events.runEvents cfg until s) k)
     unfolding rules.andThen
     walk-done-then k = rw ends
@@ -186,25 +145,12 @@ module _ (cfg : Config) (until : ℕ) (s : KernelState) (x : Next) (e : ruleNext
     opens-then : (f : KernelState → rules.Run) → rules.andThen (events.runEvents cfg until s) f ≡ rules.andThen handled (λ u. rules.andThen (events.runEvents cfg until u) f)
     opens-then f = ap (λ (r : rules.Run). rules.andThen r f) opens ∙ then-then handled (events.runEvents cfg until) f
 
-    pub walk-goes : a .outcome ≡ Ran → expected (logAt w1 (a .raised)) (events.runEvents cfg until (a .state)) ≡ expected (logAt w n) (events.runEvents cfg until s)
-    walk-goes o = sym (ap (expected (logAt w n)) opens ∙ then-ran (logAt w n) handled (events.runEvents cfg until) a w1 step o)
-
     pub walk-goes-then : a .outcome ≡ Ran → (f : KernelState → rules.Run)
         → expected (logAt w1 (a .raised)) (rules.andThen (events.runEvents cfg until (a .state)) f) ≡ expected (logAt w n) (rules.andThen (events.runEvents cfg until s) f)
     walk-goes-then o f = sym (ap (expected (logAt w n)) (opens-then f) ∙ then-ran (logAt w n) handled (λ u. rules.andThen (events.runEvents cfg until u) f) a w1 step o)
-
-    pub walk-stops : Stopped (a .outcome) → actual a w1 ≡ expected (logAt w n) (events.runEvents cfg until s)
-    walk-stops o = then-stop (logAt w n) handled (events.runEvents cfg until) a w1 step o ∙ ap (expected (logAt w n)) (sym opens)
 
     pub walk-stops-then : Stopped (a .outcome) → (f : KernelState → rules.Run) → actual a w1 ≡ expected (logAt w n) (rules.andThen (events.runEvents cfg until s) f)
     walk-stops-then o f = then-stop (logAt w n) handled (λ u. rules.andThen (events.runEvents cfg until u) f) a w1 step o ∙ ap (expected (logAt w n)) (sym (opens-then f))
 
     pub walk-falls : a .outcome ≡ Ran → events.weight (a .state) < events.weight s
     walk-falls o = rw (state-is (logAt w n) handled a w1 step) (event-falls cfg until s handled turn (ran-too (logAt w n) handled a w1 step o))
-
--- a delivery is next: so one comes out of the list
-pub walk-none : (limit : ℕ) (s : KernelState) (t : ℕ) → events.nextOf limit s ≡ events.next events.delivery t → popped deliveriesCapacity blankDelivery (deliveriesRow (s .deliveries)) .got ≡ none → ⊥
-walk-none limit s t e =
-    let d = due-delivery limit s t e in
-    take-case deliveriesCapacity (λ (y : Taken Delivery). y .got ≡ none → ⊥) blankDelivery 0 (deliveriesRow (s .deliveries))
-    (λ x l o h. let z : _≡_ {A = ℕ} 0 1 = cc in omega arith) (λ o h. let y = o (d .1) in omega (arith, d .0))

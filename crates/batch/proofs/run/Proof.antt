@@ -1,7 +1,6 @@
 -- `batch::run` meets its contract: what is left to run gives what the whole gives, call by call. Assumes nothing.
 use Prim.Native.Nat.{ℕ, _+_, _-_, _*_, _/_, _≤_, _<_}
 use mathlib.Core.Bool.{false}
-use mathlib.Core.List.{List}
 use mathlib.Core.Logic.{⊎-elim, inl, inr}
 use mathlib.Core.Option.{some}
 use mathlib.Core.Path.{_≡_, refl, sym, ap, _∙_, subst}
@@ -40,7 +39,7 @@ use Rattle.walk.proofs.EventsExits.{due-delivery, due-observation, next-is, wal
 use Rattle.matching.specs.Matching.{ruleFills}
 use Rattle.matching.proofs.Pass.{looks-few, looks-is, fills-some}
 use Rattle.phases.specs.Phases.{openedIn, worked}
-use Rattle.phases.specs.declared.Work.the-variants.{Match, Settle}
+use Rattle.phases.specs.declared.Work.the-variants.{Settle}
 use Rattle.phases.proofs.PhasesExits.{Goes, behind, turn-of, work-of, phases-stop, phases-left, phases-on, phases-fall, again-not-paused, end-stops, onward-end, onward-to, settle-past, settle-is, match-past}
 use Rattle.parts.specs.Parts.{stateOf, clocked}
 use Rattle.parts.proofs.Long.{deliveries-whole, observed-whole}

@@ -1,2 +1,3 @@
+pub mod Batches
 pub mod Sample
 pub mod TurnExits

@@ -1,52 +1,47 @@
--- A day's run, turn by turn: "It advances and passes until Terminal."
-use Prim.Native.Nat.{ℕ}
-use mathlib.Core.Bool.{Bool, false}
-use mathlib.Core.List.{List}
-use lib.Dec.{eqb}
+-- What `day::turns` leaves: a batch of calls, its lines, and a pass.
+use Prim.Native.Nat.{ℕ, suc, _+_, _/_}
+use mathlib.Core.Bool.{Bool}
+use mathlib.Core.List.{List, _++_}
+use mathlib.Core.Path.{_≡_}
+use lib.ListN.{length, take}
 use Rattle.numbers.specs.Choice.{pick}
-use Rattle.state.specs.Numbers.{isTerminalPhase}
 use Rattle.book.specs.declared.config.Config.{Config}
 use Rattle.state.specs.declared.KernelState.{KernelState}
-use Rattle.rules.specs.Calls as calls
+use Rattle.rules.specs.Batch.{BatchResult, run, returnedRun}
 use Rattle.text.specs.Write.{Text, textAt, texted}
-use Rattle.lines.specs.Print.{callText, filledAfter, lastLine}
+use Rattle.lines.specs.Print.{callText, filledAfter}
+use Rattle.day.specs.Replay.{goesOn, passedOn, lastOf, runFrom}
 use Rattle.day.specs.declared.Turned.{Turned}
 
--- what a turn leaves: whether the run goes on, the state, the sum of the printed fill reports, the log, and the text of what it prints
-pub record TurnResult : Type 0 where
+-- what turns leave: whether the run goes on, the state, the sum of the printed fill reports, the log, and the text of what they print
+pub record TurnsResult : Type 0 where
   pub more : Bool
   pub state : KernelState
   pub filled : ℕ
   pub log : List ℕ
   pub text : Text
 
--- a turn of a call that raised n events, whose log this is
-abbrev pub turnOf : Bool → KernelState → ℕ → List ℕ → ℕ → List ℕ → TurnResult
-turnOf more s filled log n out = record { more = more; state = s; filled = filledAfter filled log n; log = log; text = texted (textAt out 0) (callText log n) }
+-- the passes of a batch: as many as a run file has rows
+abbrev pub batchPasses : ℕ
+batchPasses = 512
 
--- "passes until Terminal": the run ends at Terminal, else it goes on behind a pass that is not refused
-unfoldable pub passedOn : KernelState → ℕ → List ℕ → ℕ → List ℕ → TurnResult
-passedOn s filled log n out =
-    pick (isTerminalPhase (s .control .phase))
-    (turnOf false s filled log n out)
-    (turnOf (eqb (calls.refusalOf (calls.pass s .did)) 0) (calls.pass s .state) filled log n out)
-
--- "It advances and passes": the events of the advance are what is printed, one line each
-unfoldable pub turned : Config → List ℕ → KernelState → ℕ → List ℕ → List ℕ → TurnResult
+-- a batch, its lines and, unless it ended the run, a pass
+unfoldable pub turned : Config → List ℕ → KernelState → ℕ → List ℕ → List ℕ → TurnsResult
 turned c rows s filled log out =
-    let a : calls.Result = calls.returned log (calls.advance c rows s) in
-    passedOn (a .state) filled (a .log) (a .count) out
-
--- what a turn prints: the lines of the advance's events, of which its log holds the first
-unfoldable pub printedBy : Config → List ℕ → KernelState → List ℕ → List ℕ
-printedBy c rows s log =
-    let a : calls.Result = calls.returned log (calls.advance c rows s) in
-    callText (a .log) (a .count)
+    let b : BatchResult = returnedRun log (run c rows (length log / 12) batchPasses s) in
+    record {
+      more = goesOn (b .state);
+      state = passedOn (b .state);
+      filled = filledAfter filled (b .log) (b .count) (b .last);
+      log = b .log;
+      text = texted (textAt out 0) (callText (b .log) (b .count) (b .last));
+    }
 
 -- what the code hands back, with the log and the bytes that it was lent
-abbrev pub actualTurn : Turned → List ℕ → List ℕ → TurnResult
-actualTurn t log out = record { more = t .more; state = t .state; filled = t .filled; log = log; text = textAt out (t .length) }
+abbrev pub actualTurns : Turned → List ℕ → List ℕ → TurnsResult
+actualTurns t log out = record { more = t .more; state = t .state; filled = t .filled; log = log; text = textAt out (t .length) }
 
--- "Last: venue position, live buy and sell, and the summed qty of printed fill reports."
-abbrev pub lastOf : KernelState → ℕ → List ℕ
-lastOf s filled = lastLine (s .gate .«venue_pos» .lots) (s .gate .«live_buy_lots») (s .gate .«live_sell_lots») filled
+-- the batch stands for one turn of document 01 or more: what it printed, and what n turns behind it print, is what they print together
+abbrev pub PrintsTurns : Config → List ℕ → KernelState → ℕ → Turned → List ℕ → Type 0
+PrintsTurns c rows s filled t out =
+    (turns : ℕ) × ((n : ℕ) → take (t .length) out ++ pick (t .more) (runFrom n c rows (t .state) (t .filled)) (lastOf (t .state) (t .filled)) ≡ runFrom (suc (turns + n)) c rows s filled)

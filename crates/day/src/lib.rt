@@ -1,17 +1,18 @@
 // A day's run between the reading of its text and the writing of its lines, on slices: nothing here opens a file.
+use batch::run;
 use book::config::Config;
-use kernel::advance;
 use kernel::pass;
 use lines::add_filled;
 use lines::put_call;
 use lines::put_last;
 use state::KernelState;
 ghost use mathlib.Core.Path.{_≡_};
-ghost use lib.ListN.{length, take};
+ghost use lib.ListN.{length};
 ghost use Rattle.text.specs.Write.{textAt, texted};
-ghost use Rattle.day.specs.Day.{actualTurn, turned, printedBy, lastOf};
+ghost use Rattle.day.specs.Day.{actualTurns, turned, PrintsTurns};
+ghost use Rattle.day.specs.Replay.{lastOf};
 
-// What a turn leaves: whether the run goes on, the state, the filled sum so far, and how many bytes of text.
+// What turns leave: whether the run goes on, the state, the filled sum so far, and how many bytes of text.
 pub struct Turned {
     pub more: bool,
     pub state: KernelState,
@@ -19,8 +20,11 @@ pub struct Turned {
     pub length: usize,
 }
 
-// One `advance`, the lines of what it raised and, unless that was the end, one `pass`. 65,536 bytes have room for every line of a log of 512 records. From step 0 a run has at most 2^64 turns: each pass raises `step`, and one at 2^64 - 1 is refused.
-pub fn turn(
+// The passes of a batch: as many as a run file has rows.
+const BATCH_PASSES: u64 = 512;
+
+// A batch of calls, the lines of what they raised and, unless that was the end, one `pass`. A log of 1,023 records has no room for a further call behind 512 events, so that only the last call of a batch can raise more than 512; 131,072 bytes have room for every line.
+pub fn turns(
     cfg: Config,
     rows: &[u64],
     state: KernelState,
@@ -28,12 +32,12 @@ pub fn turn(
     log: &mut [u64],
     out: &mut [u8],
 ) -> Turned
-    ensures { λ r. ⌜ actualTurn r (now (log .exit)) (now (out .exit)) ≡ turned cfg (now (rows .entry)) state filled (now (log .entry)) (now (out .entry)) ⌝ }
-    ensures { λ r. ⌜ (length (now (log .entry)) ≡ 6144 → length (now (out .entry)) ≡ 65536 → take (r .length) (now (out .exit)) ≡ printedBy cfg (now (rows .entry)) state (now (log .entry))) ⌝ }
+    ensures { λ r. ⌜ actualTurns r (now (log .exit)) (now (out .exit)) ≡ turned cfg (now (rows .entry)) state filled (now (log .entry)) (now (out .entry)) ⌝ }
+    ensures { λ r. ⌜ (length (now (log .entry)) ≡ 12276 → length (now (out .entry)) ≡ 131072 → PrintsTurns cfg (now (rows .entry)) state filled r (now (out .exit))) ⌝ }
 {
-    let a = advance(cfg, rows, state, log);
-    let length = put_call(out, log, a.events);
-    let sum = add_filled(filled, log, a.events);
+    let a = run(cfg, rows, state, log, BATCH_PASSES);
+    let length = put_call(out, log, a.events, a.last);
+    let sum = add_filled(filled, log, a.events, a.last);
     let reached = a.state;
     let control = reached.control;
     let phase = control.phase;

@@ -20,8 +20,8 @@ second =
 
 examples :
     -- the words of a later record are not printed; a call of five events in a log of four
-    (callText second 1 ≡ bytes "rowend 0 20\n")
-    × (callText second 5 ≡ bytes "rowend 0 20\ndelivered 10 0 1 accepted 0\ndelivered 20 1 1 fill 5\neod 0 0\ncut\n")
+    (callText second 1 1 ≡ bytes "rowend 0 20\n")
+    × (callText second 5 5 ≡ bytes "rowend 0 20\ndelivered 10 0 1 accepted 0\ndelivered 20 1 1 fill 5\neod 0 0\ncut\n")
     × (lastLine (negsuc 11) 7 8 9 ≡ bytes "position -12 live 7 8 filled 9\n")
     × (badLine 10 ≡ bytes "bad 10\n")
 unfolding second decimal digits signed pick all kindName reportLine shortLine lineOn eventLine printed callText lastLine badLine

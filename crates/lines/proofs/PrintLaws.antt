@@ -60,15 +60,15 @@ sum-begin log n s =
     rw z
 
 -- ---- a call's text, with `cut` and without
-module _ (log : List ℕ) (events n : ℕ) (e : n ≡ recordsOf log events) (t v : Text) (f : v ≡ texted t (printed n log)) where
-  pub call-cut : (u : Text) → n < events → u ≡ texted v (bytes "cut\n") → u ≡ texted t (callText log events)
+module _ (log : List ℕ) (events last n : ℕ) (e : n ≡ recordsOf log events last) (t v : Text) (f : v ≡ texted t (printed n log)) where
+  pub call-cut : (u : Text) → n < events → u ≡ texted v (bytes "cut\n") → u ≡ texted t (callText log events last)
   unfolding callText pick
   call-cut u h g = rw (← e, lt-ltb n events h, texted-append, ← f) g
 
-  pub call-whole : events ≤ n → v ≡ texted t (callText log events)
+  pub call-whole : events ≤ n → v ≡ texted t (callText log events last)
   unfolding callText pick texted
   call-whole h = rw (← e, le-ltb n events h, texted-append, ← f)
 
-pub sum-whole : (log : List ℕ) (sum events n s : ℕ) → n ≡ recordsOf log events → s ≡ filledFrom sum n log → s ≡ filledAfter sum log events
+pub sum-whole : (log : List ℕ) (sum events last n s : ℕ) → n ≡ recordsOf log events last → s ≡ filledFrom sum n log → s ≡ filledAfter sum log events last
 unfolding filledAfter
-sum-whole log sum events n s e f = rw (← e) f
+sum-whole log sum events last n s e f = rw (← e) f

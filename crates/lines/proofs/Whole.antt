@@ -1,5 +1,5 @@
--- A call's text is never cut short for want of room: 65,536 bytes hold the lines of 512 records and `cut`. Assumes nothing.
-use Prim.Native.Nat.{ℕ, zero, suc, _+_, _*_, _≤_, _<_}
+-- A text is never cut short for want of room where there are 110 bytes for each record of the log and four for `cut`. Assumes nothing.
+use Prim.Native.Nat.{ℕ, zero, suc, _+_, _*_, _/_, _≤_, _<_}
 use mathlib.Core.Path.{_≡_, _∙_}
 use mathlib.Core.Bool.{Bool, true, false}
 use mathlib.Core.List.{List, [], _∷_, _++_}
@@ -92,16 +92,16 @@ unfolding printed
 printed-most zero log h = omega arith
 printed-most (suc n) log h = simp length-append (omega (arith, event-most (take 12 log) (words-take 12 log h), printed-most n (drop 12 log) (words-drop 12 log h)))
 
-module _ (log : List ℕ) (events : ℕ) (e : length log ≡ 6144) (h : Words log) where
-  call-most : length (callText log events) ≤ 56324
+module _ (log : List ℕ) (events last : ℕ) (h : Words log) where
+  call-most : length (callText log events last) ≤ length log / 12 * 110 + 4
   unfolding callText
   call-most =
-      let r : recordsOf log events ≤ 512 = rw e (omega arith) in
-      simp length-append (omega (arith, r, printed-most (recordsOf log events) log h, either-most (ltb (recordsOf log events) events) (bytes "cut\n") [] 4 (omega arith) (omega arith)))
+      let r : recordsOf log events last ≤ length log / 12 = omega arith in
+      simp length-append (omega (arith, r, printed-most (recordsOf log events last) log h, either-most (ltb (recordsOf log events last) events) (bytes "cut\n") [] 4 (omega arith) (omega arith)))
 
-  -- what `put_call` leaves in 65,536 bytes: the text in front, and its length as the answer
-  pub printed-whole : (out : List ℕ) → length out ≡ 65536
-      → texted (textAt out 0) (callText log events) ≡ textAt (callText log events ++ drop (length (callText log events)) out) (length (callText log events))
+  -- what `put_call` leaves where the bytes have that room: the text in front, and its length as the answer
+  pub printed-whole : (out : List ℕ) → length log / 12 * 110 + 4 ≤ length out
+      → texted (textAt out 0) (callText log events last) ≡ textAt (callText log events last ++ drop (length (callText log events last)) out) (length (callText log events last))
   printed-whole out f =
-      let z : 0 + length (callText log events) ≡ length (callText log events) = omega arith in
-      texted-whole (callText log events) out 0 (omega (arith, call-most)) ∙ rw z
+      let z : 0 + length (callText log events last) ≡ length (callText log events last) = omega arith in
+      texted-whole (callText log events last) out 0 (omega (arith, call-most)) ∙ rw z

@@ -1,5 +1,5 @@
 -- The lines that `replay` prints: those of a call, the last and `bad`.
-use Prim.Native.Nat.{ℕ, zero, suc, _+_, _/_, min}
+use Prim.Native.Nat.{ℕ, zero, suc, _+_, _-_, _/_, min}
 use mathlib.Core.List.{List, [], _∷_, _++_}
 use lib.Dec.{ltb, eqb}
 use lib.IntN.{ℤ}
@@ -14,13 +14,13 @@ unfoldable pub printed : ℕ → List ℕ → List ℕ
 printed zero log = []
 printed (suc n) log = eventLine (take 12 log) ++ printed n (drop 12 log)
 
--- how many records a call has written: those that fit whole
-abbrev pub recordsOf : List ℕ → ℕ → ℕ
-recordsOf log events = min events (length log / 12)
+-- "The log is 512 records": how many are printed of a log with the events of several calls, of which so many are the last call's. Of the last call 512, and no more than the log holds
+abbrev pub recordsOf : List ℕ → ℕ → ℕ → ℕ
+recordsOf log events last = min (events - (last - 512)) (length log / 12)
 
--- "The log is 512 records; a call raising more then adds `cut`."
-unfoldable pub callText : List ℕ → ℕ → List ℕ
-callText log events = printed (recordsOf log events) log ++ pick (ltb (recordsOf log events) events) (bytes "cut\n") []
+-- "a call raising more then adds `cut`."
+unfoldable pub callText : List ℕ → ℕ → ℕ → List ℕ
+callText log events last = printed (recordsOf log events last) log ++ pick (ltb (recordsOf log events last) events) (bytes "cut\n") []
 
 -- "the summed qty of printed fill reports": a report's word 5 is its kind, word 9 its qty
 unfoldable pub filledQty : List ℕ → ℕ
@@ -31,8 +31,8 @@ unfoldable pub filledFrom : ℕ → ℕ → List ℕ → ℕ
 filledFrom sum zero log = sum
 filledFrom sum (suc n) log = filledFrom (min (sum + filledQty (take 12 log)) 18446744073709551615) n (drop 12 log)
 
-unfoldable pub filledAfter : ℕ → List ℕ → ℕ → ℕ
-filledAfter sum log events = filledFrom sum (recordsOf log events) log
+unfoldable pub filledAfter : ℕ → List ℕ → ℕ → ℕ → ℕ
+filledAfter sum log events last = filledFrom sum (recordsOf log events last) log
 
 -- "Last: venue position, live buy and sell, and the summed qty of printed fill reports"
 unfoldable pub lastLine : ℤ → ℕ → ℕ → ℕ → List ℕ

@@ -2,32 +2,33 @@
 use logline::put_event;
 use logline::word;
 use numbers::position::Position;
+use numbers::words::saturating_sub;
 use text::write::put_byte;
 use text::write::put_bytes;
 use text::write::put_field;
 use text::write::put_signed;
 ghost use mathlib.Core.Path.{_≡_};
-ghost use Prim.Native.Nat.{_+_, _/_, min};
-ghost use lib.ListN.{length};
+ghost use Prim.Native.Nat.{_+_, min};
 ghost use Rattle.text.specs.Write.{textAt, texted};
-ghost use Rattle.lines.specs.Print.{callText, lastLine, badLine, filledQty, filledAfter};
+ghost use Rattle.lines.specs.Print.{recordsOf, callText, lastLine, badLine, filledQty, filledAfter};
 
-// How many records of the log a call has written.
-fn records(log: &[u64], events: u64) -> usize
-    ensures { λ r. ⌜ r ≡ min events (length (now (log .entry)) / 12) ⌝ }
+// How many records of the log are printed, of the events that several calls raised; `last` are the last call's, of which no more than 512 are.
+fn records(log: &[u64], events: u64, last: u64) -> usize
+    ensures { λ r. ⌜ r ≡ recordsOf (now (log .entry)) events last ⌝ }
 {
+    let shown = saturating_sub(events, saturating_sub(last, 512));
     let room = log.len() / 12;
-    if events < room as u64 {
-        return events as usize;
+    if shown < room as u64 {
+        return shown as usize;
     }
     room
 }
 
-// What a call prints: the line of each record, and `cut` where it raised more than the log holds.
-pub fn put_call(out: &mut [u8], log: &[u64], events: u64) -> usize
-    ensures { λ r. ⌜ textAt (now (out .exit)) r ≡ texted (textAt (now (out .entry)) 0) (callText (now (log .entry)) events) ⌝ }
+// What calls print: the line of each record, and `cut` where the last raised more than is printed of it.
+pub fn put_call(out: &mut [u8], log: &[u64], events: u64, last: u64) -> usize
+    ensures { λ r. ⌜ textAt (now (out .exit)) r ≡ texted (textAt (now (out .entry)) 0) (callText (now (log .entry)) events last) ⌝ }
 {
-    let n = records(log, events);
+    let n = records(log, events, last);
     let mut to = 0;
     let mut i = 0;
     while i < n {
@@ -55,11 +56,11 @@ fn filled_qty(w: &[u64]) -> u64
     word(w, 9)
 }
 
-// The sum of the quantities of the printed reports of kind fill, with those of a call. It stays at the largest number, which a run does not reach: all quantities together are within 64 bits.
-pub fn add_filled(sum: u64, log: &[u64], events: u64) -> u64
-    ensures { λ r. ⌜ r ≡ filledAfter sum (now (log .entry)) events ⌝ }
+// The sum of the quantities of the printed reports of kind fill, with those of calls. It stays at the largest number, which a run does not reach: all quantities together are within 64 bits.
+pub fn add_filled(sum: u64, log: &[u64], events: u64, last: u64) -> u64
+    ensures { λ r. ⌜ r ≡ filledAfter sum (now (log .entry)) events last ⌝ }
 {
-    let n = records(log, events);
+    let n = records(log, events, last);
     let mut s = sum;
     let mut i = 0;
     while i < n {

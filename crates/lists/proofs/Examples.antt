@@ -6,7 +6,7 @@ use mathlib.Core.List.{[], _∷_}
 use mathlib.Core.Option.{none, some}
 use lib.Dec.{ltb, eqb}
 use Rattle.numbers.specs.Choice.{pick}
-use Rattle.lists.specs.Lists.{Row, Put, live, insertAt, removeAt, before, foundIn, placed, without, putAt, putBefore, takeAt, storeAt, entryAt, emptied}
+use Rattle.lists.specs.Lists.{Row, live, insertAt, removeAt, before, foundIn, placed, without, putAt, putBefore, takeAt, storeAt, emptied}
 
 -- three live of four, with a 7 in the slot past them
 abbrev three : Row ℕ

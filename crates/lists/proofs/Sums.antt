@@ -2,17 +2,16 @@
 -- Assumes nothing.
 use Prim.Native.Nat.{ℕ, zero, suc, _+_, _-_, _≤_, _<_}
 use mathlib.Core.Bool.{Bool, true, false}
-use mathlib.Core.Option.{Option, none, some}
-use mathlib.Core.Path.{_≡_, refl, sym, ap, _∙_}
+use mathlib.Core.Option.{none, some}
+use mathlib.Core.Path.{_≡_, refl, ap, _∙_}
 use mathlib.Core.List.{List, [], _∷_, _++_}
 use native.Mathlib.Nat.{not-suc-le-zero, le-of-suc-le-suc}
 use native.Mathlib.Omega.{arith}
-use lib.ListN.{length, take, drop, getD, set, replicate, length-append, length-take, length-drop, drop-of-length-le}
+use lib.ListN.{length, take, drop, getD, set, length-append, length-take, drop-of-length-le}
 use lib.Seq.{length-take-le, take-at, take-all, take-nil, take-take, getD-take, take-set-lt}
 use borrow.Author.Tests.{ltb-true, ltb-false, leb-true, leb-false}
 use lib.Dec.{ltb, leb}
-use Rattle.numbers.specs.Choice.{pick}
-use Rattle.lists.specs.Lists.{Row, Put, Taken, onSome, insertAt, removeAt, before, foundIn, below, live, placed, without, putAt, takeAt, entryAt, storeAt, emptied, total}
+use Rattle.lists.specs.Lists.{Row, Put, Taken, onSome, insertAt, removeAt, before, foundIn, below, live, placed, without, putAt, takeAt, entryAt, storeAt, total}
 use Rattle.lists.proofs.Cases.{pick-case}
 use Rattle.lists.proofs.Loops.{insertAt-length, removeAt-length}
 

@@ -2,7 +2,7 @@
 use book::config::Config;
 use day::Turned;
 use day::put_end;
-use day::turn;
+use day::turns;
 use libc::STDOUT_FILENO;
 use lines::put_bad;
 use numbers::MaybeU64;
@@ -29,8 +29,8 @@ fn print_end(state: KernelState, filled: u64) {
     print(&out, n);
 }
 
-// A turn with its lines. A run whose lines cannot be written goes no further.
-fn print_turn(
+// A batch of turns with its lines. A run whose lines cannot be written goes no further.
+fn print_turns(
     cfg: Config,
     rows: &[u64],
     state: KernelState,
@@ -38,7 +38,7 @@ fn print_turn(
     log: &mut [u64],
     out: &mut [u8],
 ) -> Turned {
-    let t = turn(cfg, rows, state, filled, log, out);
+    let t = turns(cfg, rows, state, filled, log, out);
     let n = t.length;
     if print(out, n) {
         return t;
@@ -48,22 +48,22 @@ fn print_turn(
     stopped
 }
 
-// The log is 512 records, and the text has room for their lines. A proved loop has to end, so its turns count down, from more than any run has: each turn but the last pauses at a row's observation, and a run file has at most 512 rows.
+// The log of a batch is 1,023 records, and the text has room for their lines. A proved loop has to end, so its batches count down, from more than any run has: each turn but the last pauses at a row's observation, and a run file has at most 512 rows.
 fn run(cfg: Config, rows: &[u64], start: KernelState) {
-    let mut words = [0u64; 6144];
+    let mut words = [0u64; 12276];
     let log: &mut [u64] = &mut words;
-    let mut text = io::large_buffer();
+    let mut text = [0u8; 131072];
     let out: &mut [u8] = &mut text;
     let mut state = start;
     let mut filled = 0;
     let mut more = true;
-    let mut turns = u64::MAX;
-    while more && turns > 0 {
-        let t = print_turn(cfg, rows, state, filled, log, out);
+    let mut batches = u64::MAX;
+    while more && batches > 0 {
+        let t = print_turns(cfg, rows, state, filled, log, out);
         state = t.state;
         filled = t.filled;
         more = t.more;
-        turns -= 1;
+        batches -= 1;
     }
     print_end(state, filled);
 }

@@ -1,6 +1,8 @@
--- What is so of each way out of a choice is so of the choice: by a number of 64 bits, and by a position that moves. Assumes nothing.
+-- What is so of each way out of a choice is so of the choice: by a number of 64 bits, and by a position that moves; and two tests that both hold. Assumes nothing.
 use Prim.Native.Nat.{ℕ}
+use mathlib.Core.Bool.{Bool, true, false, _&&_}
 use mathlib.Core.Path.{_≡_, refl}
+use native.Mathlib.Omega.{arith}
 use lib.IntN.{ℤ, pos, _+ℤ_, _-ℤ_}
 use Rattle.numbers.specs.Words.{onWord}
 use Rattle.numbers.specs.Position.{ranged, raisedBy, loweredBy, onMoved}
@@ -18,6 +20,10 @@ pub word-case : {B : Type 0} (P : B → Type 0) (w : MaybeU64) (k : ℕ → B) (
 unfolding onWord
 word-case P u64.None k z h g = g refl
 word-case P (u64.Some n) k z h g = h n refl
+
+pub both : (a b : Bool) → (a && b) ≡ true → (a ≡ true) × (b ≡ true)
+both true b e = (refl, e)
+both false b e = let z : _≡_ {A = ℕ} 0 1 = cc in absurd (omega arith)
 
 -- p moved by n lots of side d
 abbrev pub movedBy : Side → ℕ → ℤ → ℤ

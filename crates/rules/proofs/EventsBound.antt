@@ -1,6 +1,6 @@
 -- One call raises fewer events than a word counts, so that the kernel's count of them is exact. Assumes nothing.
 use Prim.Native.Nat.{ℕ, suc, _+_, _-_, _*_, _/_, _%_, _^_, _≤_, _<_}
-use mathlib.Core.Bool.{Bool, true, false, _&&_}
+use mathlib.Core.Bool.{true}
 use mathlib.Core.List.{List, [], _∷_}
 use mathlib.Core.Path.{_≡_, refl, ap}
 use native.Mathlib.Omega.{arith}
@@ -22,6 +22,7 @@ use Rattle.rules.specs.Run.{Outcome, Run, ran, left, halt, ended}
 use Rattle.rules.specs.Events.{extraKind, extra}
 use Rattle.rules.specs.Phases.{onPhase, phaseTurn, turns, phases}
 use Rattle.rules.specs.Calls.{Answer, answerOn, answer, countsFit, advance}
+use Rattle.rules.proofs.Cases.{both}
 use Rattle.rules.proofs.Loop.{runOf}
 use Rattle.rules.proofs.Within.{Within, ran-in, map-in, iter-in}
 use Rattle.rules.proofs.Falls.{Kept, less}
@@ -70,10 +71,6 @@ few-extra (m ∷ l) = let e = few-extra l in let w = go (m .kind) in omega arith
     go (Cancel id) = omega arith
     go (Activate o life) = omega arith
     go (Expire id) = omega arith
-
-both : (a b : Bool) → (a && b) ≡ true → (a ≡ true) × (b ≡ true)
-both true b e = (refl, e)
-both false b e = let z : _≡_ {A = ℕ} 0 1 = cc in absurd (omega arith)
 
 -- lists within their capacities weigh at most 104
 fit-affords : (rows : List ℕ) (s : KernelState) → countsFit s ≡ true → Affords rows (357 + 44 * (length rows / 5)) s

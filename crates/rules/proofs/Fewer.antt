@@ -25,7 +25,8 @@ use Rattle.rules.specs.Matching.{filledBy, fillCounted, fillEvent, fillA
 use Rattle.rules.specs.Delivery.{deliverAll, droppedEvent, closeData, endOfData}
 use Rattle.rules.specs.Phases.{queueObservation, matchPhase, beforeMatch, settleRow, settle, nextRow, obsQueued, onPhase, phaseTurn, turnsIn, turns, phases}
 use Rattle.rules.proofs.Loop.{run-again, run-last}
-use Rattle.rules.proofs.Within.{word-case, Within, ran-in, halted-in, halt-in, ended-in, pick-in, some-in, word-in, taking-in, putting-in, ran-out, then-in}
+use Rattle.rules.proofs.Cases.{word-case}
+use Rattle.rules.proofs.Within.{Within, ran-in, halted-in, halt-in, ended-in, pick-in, some-in, word-in, taking-in, putting-in, ran-out, then-in}
 use Rattle.rules.proofs.Falls.{Kept, less, raise-in, stamp-in, report-in, await-in, removed-in, fewer-in, deliver-in, walk-in, own}
 
 stored-few : (i h : ℕ) (o : VenueOrder) (r : Row VenueOrder) → r .count ≤ h → storeAt 8 i o r .list .count ≤ h
@@ -97,8 +98,8 @@ module _ {P : ℕ → KernelState → Type 0} where
   close-in : {x : ℕ} {p : Phase} {h n : ℕ} (s : KernelState) → Kept x p h 1 n s → Within n P (closeData s)
   unfolding closeData
   close-in {n = n} s k = word-case (λ r. Within n P (after es r)) _ _ _
-      (λ m. word-case (λ r. Within n P (after es r)) _ _ _ (λ q. ended-in (rw length-append (omega (arith, few)))) (halted-in (rw length-append (omega (arith, few)))))
-      (halted-in (rw length-append (omega (arith, few))))
+      (λ m _. word-case (λ r. Within n P (after es r)) _ _ _ (λ q _. ended-in (rw length-append (omega (arith, few)))) (λ _. halted-in (rw length-append (omega (arith, few)))))
+      (λ _. halted-in (rw length-append (omega (arith, few))))
     where
       es : List KernelEvent
       es = map droppedEvent (live 16 (msgsRow (s .msgs)))

@@ -10,7 +10,6 @@ use Rattle.numbers.specs.Choice.{pick}
 use Rattle.numbers.specs.Words.{onWord}
 use Rattle.numbers.specs.Position.{onMoved}
 use Rattle.numbers.specs.declared.MaybeU64.{MaybeU64}
-use Rattle.numbers.specs.declared.MaybeU64.the-variants as u64
 use Rattle.numbers.specs.declared.position.Moved.{Moved}
 use Rattle.numbers.specs.declared.position.Moved.the-variants.{Out, To}
 use Rattle.numbers.specs.declared.position.Position.{Position}
@@ -23,12 +22,8 @@ use Rattle.state.specs.declared.HaltReason.the-variants.{CounterOverflow}
 use Rattle.state.specs.declared.KernelEvent.{KernelEvent}
 use Rattle.state.specs.declared.KernelState.{KernelState}
 use Rattle.rules.specs.Run.{Outcome, Run, ran, left, halt, ended, ranTo, raised, haltAt, onRan, after, andThen, putting, taking, Turn, again, last, onTurn, iter}
+use Rattle.rules.proofs.Cases.{word-case}
 use Rattle.rules.proofs.Loop.{runOf}
-
-pub word-case : {A : Type 0} (P : A → Type 0) (w : MaybeU64) (k : ℕ → A) (z : A) → ((q : ℕ) → P (k q)) → P z → P (onWord w k z)
-unfolding onWord
-word-case P u64.None k z h g = g
-word-case P (u64.Some q) k z h g = h q
 
 -- P of the state where it ran, else nothing
 abbrev pub RanAt : (KernelState → Type 0) → Outcome → KernelState → Type 0
@@ -69,7 +64,7 @@ module _ {P : ℕ → KernelState → Type 0} {n : ℕ} where
   some-in o h g = some-case (Within n P) o _ _ (λ x _. h x) (λ _. g)
 
   pub word-in : (w : MaybeU64) {k : ℕ → Run} {z : Run} → ((q : ℕ) → Within n P (k q)) → Within n P z → Within n P (onWord w k z)
-  word-in w h g = word-case (Within n P) w _ _ h g
+  word-in w h g = word-case (Within n P) w _ _ (λ q _. h q) (λ _. g)
 
   pub moved-in : (w : Moved) {k : Position → Run} {z : Run} → ((q : Position) → Within n P (k q)) → Within n P z → Within n P (onMoved w k z)
   unfolding onMoved

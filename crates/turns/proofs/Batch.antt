@@ -20,6 +20,7 @@ use Rattle.rules.specs.Log.{written}
 use Rattle.rules.specs.Phases.{phases}
 use Rattle.rules.specs.Calls.{Answer, stays, refuse, answerOn, answer, countsFit, advance, pass}
 use Rattle.rules.specs.Batch.{callRecords, Batch, ending, isStay, goesOn, runFrom, run, returnedRun}
+use Rattle.rules.proofs.Cases.{both}
 use Rattle.rules.proofs.EventsBound.{phases-few}
 use Rattle.reports.specs.Log.{Log, logAt, appendEvent, appendEvents, outcomeOf, StepResult, expected}
 use Rattle.reports.proofs.Append.{appended-append, appended-all}
@@ -67,10 +68,6 @@ record Follows (records : ℕ) (es : List KernelEvent) (r : rules.Run) : Type 0 
   same : answer r ≡ record { did = stays; state = r .state; events = r .events }
   passes : isStay (pass (r .state) .did) ≡ true
   room : length (es ++ r .events) + callRecords ≤ records
-
-both : (a b : Bool) → (a && b) ≡ true → (a ≡ true) × (b ≡ true)
-both true b e = (refl, e)
-both false b e = absurd (false≢true e)
 
 follows : (records : ℕ) (es : List KernelEvent) (r : rules.Run) → goesOn records es (answer r) ≡ true → Follows records es r
 unfolding answer goesOn

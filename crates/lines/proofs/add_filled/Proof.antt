@@ -10,10 +10,10 @@ use Rattle.lines.proofs.add_filled.Statement.{statement}
 use Rattle.lines.proofs.add_filled.Tie as tie
 
 abbrev Inv-loop : tie.InvT-loop
-Inv-loop sum log events n s₀ i₀ s i = (i ≤ n) × (filledFrom s₀ n log ≡ filledFrom s (n - i) (drop (i * 12) log))
+Inv-loop sum log events last n s₀ i₀ s i = (i ≤ n) × (filledFrom s₀ n log ≡ filledFrom s (n - i) (drop (i * 12) log))
 
 abbrev μ-loop : tie.MeasureT-loop
-μ-loop sum log events n s₀ i₀ s i = n - i
+μ-loop sum log events last n s₀ i₀ s i = n - i
 
 pub add-filled-spec : {M : Type 1} → statement M
 add-filled-spec =
@@ -36,5 +36,5 @@ add-filled-spec =
           (omega arith) (c .before .filled-qty .ensures) (c .add-up-to .ensures) (d .loop .inv .1),
     ))
     (λ c. let b = c .before .before .before .before in
-    sum-whole (b .args .log .now) (b .args .sum) (b .args .events) (c .before .before .records .result) _ (c .before .before .records .ensures)
+    sum-whole (b .args .log .now) (b .args .sum) (b .args .events) (b .args .last) (c .before .before .records .result) _ (c .before .before .records .ensures)
     (sum-end (b .args .log .now) (c .before .before .records .result) (c .before .loop .i) (c .loop-test .left) _ _ (c .before .loop .inv .1))))

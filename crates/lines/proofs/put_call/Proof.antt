@@ -11,10 +11,10 @@ use Rattle.lines.proofs.put_call.Statement.{statement}
 use Rattle.lines.proofs.put_call.Tie as tie
 
 abbrev Inv-loop : tie.InvT-loop
-Inv-loop out₀ log events n to₀ i₀ t9 out to i = (i ≤ n) × (length out ≡ length out₀) × (texted (textAt out₀ to₀) (printed n log) ≡ texted (textAt out to) (printed (n - i) (drop (i * 12) log)))
+Inv-loop out₀ log events last n to₀ i₀ t9 out to i = (i ≤ n) × (length out ≡ length out₀) × (texted (textAt out₀ to₀) (printed n log) ≡ texted (textAt out to) (printed (n - i) (drop (i * 12) log)))
 
 abbrev μ-loop : tie.MeasureT-loop
-μ-loop out₀ log events n to₀ i₀ t9 out to i = n - i
+μ-loop out₀ log events last n to₀ i₀ t9 out to i = n - i
 
 pub put-call-spec : {M : Type 1} → statement M
 put-call-spec =
@@ -40,11 +40,11 @@ put-call-spec =
     (λ c κs. search needs)
     (λ c. c .before .before .put-bytes .kept .0 ∙ c .before .before .before .before .before .before .before .loop .inv .1)
     (λ c. let b = c .before .before .before .before .before in let d = b .before in let e = d .before in let f = e .before in let g = f .before .before .before in
-    call-cut (g .args .log .now) (g .args .events) (f .records .result) (f .records .ensures) _ _
+    call-cut (g .args .log .now) (g .args .events) (g .args .last) (f .records .result) (f .records .ensures) _ _
     (call-end (g .args .log .now) (f .records .result) (e .loop .i) (d .loop-test .left) _ _ (e .loop .inv .2)) _ (b .if1 .taken)
     (c .before .before .put-bytes .ensures))
     (λ c. c .before .before .loop .inv .1)
     (λ c. let b = c .before .before .before in let d = b .before .before .before in
-    call-whole (d .args .log .now) (d .args .events) (b .records .result) (b .records .ensures) _ _
+    call-whole (d .args .log .now) (d .args .events) (d .args .last) (b .records .result) (b .records .ensures) _ _
     (call-end (d .args .log .now) (b .records .result) (c .before .before .loop .i) (c .before .loop-test .left) _ _ (c .before .before .loop .inv .2))
     (c .if1 .left)))

@@ -1,7 +1,6 @@
 -- `replay::run_first` lends no more than there is. Assumes nothing.
 use mathlib.Core.Path.{sym}
 use borrow.Author.Needs.{needs}
-use native.Mathlib.Omega.{arith}
 use lib.Seq.{length-take-le}
 use Rattle.replay.proofs.run_first.Statement.{statement}
 use Rattle.replay.proofs.run_first.Tie as tie

@@ -41,6 +41,18 @@ pub text-end : (t v : Text) (s : List ℕ) (i : ℕ) → length s ≤ i → t �
 unfolding texted
 text-end t v s i h f = sym (rw (drop-of-length-le s h) at f)
 
+-- ---- a piece for which there is room, from place n on
+pub all-begin : (bs : List ℕ) (n : ℕ) (s : List ℕ) → texted (textAt bs n) s ≡ texted (textAt bs (n + 0)) (drop 0 s)
+all-begin bs n s =
+    let z : n + 0 ≡ n = omega arith in
+    rw z
+
+pub all-turn : (t : Text) (bs s : List ℕ) (n i : ℕ) → i < length s → n + i < length bs → t ≡ texted (textAt bs (n + i)) (drop i s)
+    → t ≡ texted (textAt (set bs (n + i) (getD s i 0)) (n + (i + 1))) (drop (i + 1) s)
+all-turn t bs s n i h k f =
+    let z : n + (i + 1) ≡ n + i + 1 = omega arith in
+    rw z (text-turn t _ (textAt bs (n + i)) s i h (put-in bs (n + i) (getD s i 0) k) f)
+
 -- ---- the digits of a number, at any fuel above it
 digits-fuel : (k m n : ℕ) → n < k → n < m → digits k n ≡ digits m n
 unfolding digits pick

@@ -1,7 +1,7 @@
 // Text written into what the caller lends, from a place on: each writer answers the next place. A byte past the end is not written.
 ghost use mathlib.Core.Path.{_≡_};
 ghost use mathlib.Core.List.{[], _∷_};
-ghost use Prim.Native.Nat.{_≤_};
+ghost use Prim.Native.Nat.{_+_, _≤_};
 ghost use lib.ListN.{length, drop};
 ghost use Rattle.text.specs.Write.{textAt, texted, decimal, signed};
 
@@ -15,7 +15,21 @@ pub fn put_byte(out: &mut [u8], at: usize, b: u8) -> usize
     at
 }
 
-pub fn put_bytes(out: &mut [u8], at: usize, s: &[u8]) -> usize
+// Bytes that there is room for: tested once, and not at each.
+fn put_all(out: &mut [u8], at: usize, s: &[u8]) -> usize
+    requires { ⌜ at + length (now s) ≤ length (now out) ⌝ }
+    ensures { λ r. ⌜ textAt (now (out .exit)) r ≡ texted (textAt (now (out .entry)) at) (now (s .entry)) ⌝ }
+{
+    let mut i = 0;
+    while i < s.len() {
+        out[at + i] = s[i];
+        i += 1;
+    }
+    at + i
+}
+
+// Bytes, the last of which may be past the end.
+fn put_each(out: &mut [u8], at: usize, s: &[u8]) -> usize
     ensures { λ r. ⌜ textAt (now (out .exit)) r ≡ texted (textAt (now (out .entry)) at) (now (s .entry)) ⌝ }
 {
     let mut to = at;
@@ -25,6 +39,18 @@ pub fn put_bytes(out: &mut [u8], at: usize, s: &[u8]) -> usize
         i += 1;
     }
     to
+}
+
+pub fn put_bytes(out: &mut [u8], at: usize, s: &[u8]) -> usize
+    ensures { λ r. ⌜ textAt (now (out .exit)) r ≡ texted (textAt (now (out .entry)) at) (now (s .entry)) ⌝ }
+{
+    let room = out.len();
+    if at <= room {
+        if s.len() <= room - at {
+            return put_all(out, at, s);
+        }
+    }
+    put_each(out, at, s)
 }
 
 // The digits of a number at the end of a row, from place `first` on. 64 bits have at most 20.

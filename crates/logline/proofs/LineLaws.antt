@@ -5,13 +5,11 @@ use mathlib.Core.List.{List, [], _∷_, append-nil}
 use mathlib.Core.Logic.{inl, inr, ⊎-elim}
 use native.Mathlib.Nat.{not-suc-le-zero, le-of-suc-le-suc}
 use native.Mathlib.Omega.{arith}
-use lib.ListN.{length, take, drop, drop-of-length-le, List·getD-eq-default}
+use lib.ListN.{take, drop, getD, List·getD-eq-default}
 use types.Run.{OneOf}
 use borrow.Author.Tests.{ne-eqb}
 use Rattle.numbers.specs.Choice.{pick}
-use Rattle.lists.specs.Lists.{before}
 use Rattle.text.specs.Bytes.{bytes}
-use Rattle.text.specs.Fields.{is}
 use Rattle.text.specs.Write.{Text, texted}
 use Rattle.text.proofs.WriteLaws.{texted-append}
 use Rattle.logline.specs.Record.{word, all, eventNames, eventName, kindName, reportLine, fillLine, shortLine, oneLine, lineOn, eventLine}
@@ -40,43 +38,46 @@ each P zero h k l = absurd (not-suc-le-zero l)
 each P (suc n) h zero l = h .0
 each P (suc n) h (suc k) l = each (λ i. P (suc i)) n (h .1) k (le-of-suc-le-suc l)
 
--- the word at a place of a row of words
-abbrev wordFrom : List ℕ → ℕ → List ℕ
-wordFrom row from = take (before (is 32) (drop from row)) (drop from row)
-
-pub no-word : (t : Text) (row : List ℕ) (from : ℕ) → length row < from → t ≡ texted t (wordFrom row from)
-unfolding before texted
-no-word t row from h =
-    let z : length row ≤ from = omega arith in
-    rw (drop-of-length-le row z)
-
-pub word-here : (t u : Text) (row : List ℕ) (from end : ℕ) → end ≡ from + before (is 32) (drop from row) → u ≡ texted t (take (end - from) (drop from row)) → u ≡ texted t (wordFrom row from)
-word-here t u row from end e h =
-    let z : end - from ≡ before (is 32) (drop from row) = omega arith in
+-- the bytes lent are those of the name
+pub name-here : (t u : Text) (row : List ℕ) (from n : ℕ) → u ≡ texted t (take (from + n - from) (drop from row)) → u ≡ texted t (take n (drop from row))
+name-here t u row from n h =
+    let z : from + n - from ≡ n = omega arith in
     rw z at h
 
--- ---- names, as they stand in the rows of words
+-- ---- names, as they stand in the rows, and their lengths
 abbrev names : List ℕ
 names = bytes "          report    fill      delivered observed  rowend    eod       halt      dropped   expired   dropexp   "
 
+abbrev nameLengths : List ℕ
+nameLengths = 0 ∷ 6 ∷ 4 ∷ 9 ∷ 8 ∷ 6 ∷ 3 ∷ 4 ∷ 7 ∷ 7 ∷ 7 ∷ []
+
 abbrev kinds : List ℕ
 kinds = bytes "accepted       rejected       canceled       cancelrejected partial        "
+
+abbrev kindLengths : List ℕ
+kindLengths = 8 ∷ 8 ∷ 8 ∷ 14 ∷ 7 ∷ []
 
 pub name-past : (k : ℕ) → 10 < k → eventName k ≡ []
 unfolding eventName
 name-past k h = List·getD-eq-default eventNames [] h
 
-pub name-at : (k : ℕ) → k ≤ 10 → wordFrom names (k * 10) ≡ eventName k
-unfolding eventName before pick Each
-name-at k h = each (λ k. wordFrom names (k * 10) ≡ eventName k) 11 (refl, (refl, (refl, (refl, (refl, (refl, (refl, (refl, (refl, (refl, (refl, tt))))))))))) k (omega arith)
+pub name-at : (k : ℕ) → k ≤ 10 → (k * 10 + getD nameLengths k 0 ≤ 110) × (take (getD nameLengths k 0) (drop (k * 10) names) ≡ eventName k)
+unfolding eventName Each
+name-at k h =
+    each (λ k. (k * 10 + getD nameLengths k 0 ≤ 110) × (take (getD nameLengths k 0) (drop (k * 10) names) ≡ eventName k)) 11
+    ((omega arith, refl), ((omega arith, refl), ((omega arith, refl), ((omega arith, refl), ((omega arith, refl), ((omega arith, refl), ((omega arith, refl), ((omega arith, refl), ((omega arith, refl), ((omega arith, refl), ((omega arith, refl), tt)))))))))))
+    k (omega arith)
 
 pub kind-past : (k : ℕ) → 4 < k → kindName k ≡ bytes "fill"
 unfolding kindName pick
 kind-past k h = rw (ne-eqb k 0 (λ e. omega arith), ne-eqb k 1 (λ e. omega arith), ne-eqb k 2 (λ e. omega arith), ne-eqb k 3 (λ e. omega arith), ne-eqb k 4 (λ e. omega arith))
 
-pub kind-at : (k : ℕ) → k ≤ 4 → wordFrom kinds (k * 15) ≡ kindName k
-unfolding kindName before pick Each
-kind-at k h = each (λ k. wordFrom kinds (k * 15) ≡ kindName k) 5 (refl, (refl, (refl, (refl, (refl, tt))))) k (omega arith)
+pub kind-at : (k : ℕ) → k ≤ 4 → (k * 15 + getD kindLengths k 0 ≤ 75) × (take (getD kindLengths k 0) (drop (k * 15) kinds) ≡ kindName k)
+unfolding kindName pick Each
+kind-at k h =
+    each (λ k. (k * 15 + getD kindLengths k 0 ≤ 75) × (take (getD kindLengths k 0) (drop (k * 15) kinds) ≡ kindName k)) 5
+    ((omega arith, refl), ((omega arith, refl), ((omega arith, refl), ((omega arith, refl), ((omega arith, refl), tt)))))
+    k (omega arith)
 
 -- ---- the line of a record of kind k: each form has its kinds
 module _ (w : List ℕ) (k : ℕ) (e : k ≡ word w 0) where

@@ -1,13 +1,11 @@
 // The line that `replay` prints of a record of the log.
-use text::fields::piece_end;
 use text::write::put_byte;
 use text::write::put_bytes;
 use text::write::put_field;
 ghost use mathlib.Core.Path.{_≡_};
 ghost use mathlib.Core.List.{[], _∷_};
-ghost use lib.ListN.{take, drop, getD};
-ghost use Rattle.lists.specs.Lists.{before};
-ghost use Rattle.text.specs.Fields.{is};
+ghost use Prim.Native.Nat.{_+_, _≤_};
+ghost use lib.ListN.{length, take, drop, getD};
 ghost use Rattle.text.specs.Write.{textAt, texted};
 ghost use Rattle.logline.specs.Record.{word, field, all, eventName, kindName, reportLine, fillLine, shortLine, oneLine, eventLine};
 
@@ -28,46 +26,48 @@ fn put_word(out: &mut [u8], at: usize, w: &[u64], i: usize) -> usize
     put_field(out, at, word(w, i))
 }
 
-// The word that stands at `from` in a row of words, up to the space behind it.
-fn put_from(out: &mut [u8], at: usize, row: &[u8], from: usize) -> usize
-    ensures { λ r. ⌜ textAt (now (out .exit)) r ≡ texted (textAt (now (out .entry)) at) (take (before (is 32) (drop from (now (row .entry)))) (drop from (now (row .entry)))) ⌝ }
+// The bytes of a name, in a row where each name has the same room.
+fn put_from(out: &mut [u8], at: usize, row: &[u8], from: usize, n: usize) -> usize
+    requires { ⌜ from + n ≤ length (now row) ⌝ }
+    ensures { λ r. ⌜ textAt (now (out .exit)) r ≡ texted (textAt (now (out .entry)) at) (take n (drop from (now (row .entry)))) ⌝ }
 {
-    if from > row.len() {
-        return at;
-    }
-    let end = piece_end(row, from, b' ');
+    let end = from + n;
     put_bytes(out, at, &row[from..end])
 }
 
-// The name of an event, by its kind: a word of at most 9 bytes in every 10.
+// The name of an event, by its kind: of at most 9 bytes, in every 10.
 fn put_name(out: &mut [u8], at: usize, kind: u64) -> usize
     ensures { λ r. ⌜ textAt (now (out .exit)) r ≡ texted (textAt (now (out .entry)) at) (eventName kind) ⌝ }
 {
     if kind > 10 {
         return at;
     }
-    let from = kind as usize * 10;
+    let k = kind as usize;
+    let n = b"\x00\x06\x04\x09\x08\x06\x03\x04\x07\x07\x07"[k];
     put_from(
         out,
         at,
         b"          report    fill      delivered observed  rowend    eod       halt      dropped   expired   dropexp   ",
-        from,
+        k * 10,
+        n as usize,
     )
 }
 
-// The name of a report's kind: a word of at most 14 bytes in every 15.
+// The name of a report's kind: of at most 14 bytes, in every 15.
 fn put_kind(out: &mut [u8], at: usize, kind: u64) -> usize
     ensures { λ r. ⌜ textAt (now (out .exit)) r ≡ texted (textAt (now (out .entry)) at) (kindName kind) ⌝ }
 {
     if kind > 4 {
         return put_bytes(out, at, b"fill");
     }
-    let from = kind as usize * 15;
+    let k = kind as usize;
+    let n = b"\x08\x08\x08\x0e\x07"[k];
     put_from(
         out,
         at,
         b"accepted       rejected       canceled       cancelrejected partial        ",
-        from,
+        k * 15,
+        n as usize,
     )
 }
 

@@ -1,5 +1,6 @@
 -- `logline::put_name` meets its contract. Assumes nothing.
 use borrow.Author.Needs.{needs}
+use native.Mathlib.Omega.{arith}
 use Rattle.text.specs.Write.{texted}
 use Rattle.logline.proofs.LineLaws.{name-past, name-at}
 use Rattle.logline.proofs.put_name.Statement.{statement}
@@ -12,7 +13,9 @@ put-name-spec =
     (λ c. rw (name-past (c .before .before .args .kind) (c .if1 .taken)))
     (λ c. search needs)
     (λ c. search needs)
-    (λ c κs. search needs)
+    (λ c. search needs)
+    (λ c. let b = c .before .before .before .before in record { fits = omega (arith, name-at (b .before .before .args .kind) (b .if1 .left) .0) })
+    (λ c κs. let b = c .before .before .before .before in name-at (b .before .before .args .kind) (b .if1 .left) .0)
     (λ c. c .before .before .put-from .kept .0)
-    (λ c. let b = c .before .before .before .before .before in
-    rw (← name-at (b .before .before .args .kind) (b .if1 .left)) (c .before .before .put-from .ensures)))
+    (λ c. let b = c .before .before .before .before .before .before .before in
+    rw (← name-at (b .before .before .args .kind) (b .if1 .left) .1) (c .before .before .put-from .ensures)))

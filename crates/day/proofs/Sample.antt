@@ -7,7 +7,7 @@ use Rattle.numbers.specs.declared.MaybeU64.the-variants.{Some}
 use Rattle.rules.specs.Log.{eventWords, written}
 use Rattle.rules.proofs.Sample as rules
 use Rattle.text.specs.Bytes.{bytes}
-use Rattle.text.specs.Write.{digits, decimal, signed}
+use Rattle.write.specs.Write.{digits, decimal, signed}
 use Rattle.logline.specs.Record.{all, kindName, reportLine, fillLine, shortLine, oneLine, lineOn, eventLine}
 use Rattle.lines.specs.Print.{printed, callText, filledQty, filledFrom, filledAfter, lastLine, badLine}
 use Rattle.runtext.specs.Read.{readText}

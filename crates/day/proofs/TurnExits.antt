@@ -18,7 +18,7 @@ use Rattle.batch.specs.Batch.{actualRun}
 use Rattle.batch.specs.declared.Advanced.{Advanced}
 use Rattle.kernel.specs.Calls.{actualPass}
 use Rattle.kernel.specs.declared.Passed.{Passed}
-use Rattle.text.specs.Write.{Text, textAt, texted}
+use Rattle.write.specs.Write.{Text, textAt, texted}
 use Rattle.lines.specs.Print.{callText, filledAfter}
 use Rattle.lines.proofs.Whole.{Words, printed-whole}
 use Rattle.day.specs.Replay.{goesOn, passedOn}

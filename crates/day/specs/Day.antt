@@ -8,7 +8,7 @@ use Rattle.numbers.specs.Choice.{pick}
 use Rattle.book.specs.declared.config.Config.{Config}
 use Rattle.state.specs.declared.KernelState.{KernelState}
 use Rattle.rules.specs.Batch.{BatchResult, run, returnedRun}
-use Rattle.text.specs.Write.{Text, textAt, texted}
+use Rattle.write.specs.Write.{Text, textAt, texted}
 use Rattle.lines.specs.Print.{callText, filledAfter}
 use Rattle.day.specs.Replay.{goesOn, passedOn, lastOf, runFrom}
 use Rattle.day.specs.declared.Turned.{Turned}

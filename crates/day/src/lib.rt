@@ -8,7 +8,7 @@ use lines::put_last;
 use state::KernelState;
 ghost use mathlib.Core.Path.{_≡_};
 ghost use lib.ListN.{length};
-ghost use Rattle.text.specs.Write.{textAt, texted};
+ghost use Rattle.write.specs.Write.{textAt, texted};
 ghost use Rattle.day.specs.Day.{actualTurns, turned, PrintsTurns};
 ghost use Rattle.day.specs.Replay.{lastOf};
 

@@ -5,7 +5,7 @@ use mathlib.Core.List.{List, [], _∷_}
 use lib.IntN.{negsuc}
 use Rattle.numbers.specs.Choice.{pick}
 use Rattle.text.specs.Bytes.{bytes}
-use Rattle.text.specs.Write.{digits, decimal, signed}
+use Rattle.write.specs.Write.{digits, decimal, signed}
 use Rattle.logline.specs.Record.{all, kindName, reportLine, shortLine, lineOn, eventLine}
 use Rattle.lines.specs.Print.{printed, callText, lastLine, badLine}
 

@@ -8,10 +8,10 @@ use lib.Seq.{drop-drop}
 use borrow.Author.Tests.{lt-ltb, le-ltb}
 use Rattle.numbers.specs.Choice.{pick}
 use Rattle.text.specs.Bytes.{bytes}
-use Rattle.text.specs.Write.{Text, texted}
+use Rattle.write.specs.Write.{Text, texted}
 use Rattle.logline.specs.Record.{eventLine}
 use Rattle.lines.specs.Print.{printed, recordsOf, callText, filledQty, filledFrom, filledAfter}
-use Rattle.text.proofs.WriteLaws.{texted-append}
+use Rattle.write.proofs.WriteLaws.{texted-append}
 
 -- ---- the records of a log from place i on, of n
 module _ (log : List ℕ) (n i : ℕ) where

@@ -8,8 +8,8 @@ use lib.Dec.{ltb, eqb}
 use lib.ListN.{length, take, drop, getD, length-append}
 use Rattle.numbers.specs.Choice.{pick}
 use Rattle.text.specs.Bytes.{bytes}
-use Rattle.text.specs.Write.{textAt, texted, decimal}
-use Rattle.text.proofs.Whole.{texted-whole, word-most}
+use Rattle.write.specs.Write.{textAt, texted, decimal}
+use Rattle.write.proofs.Whole.{texted-whole, word-most}
 use Rattle.logline.specs.Record.{word, all, kindName, reportLine, fillLine, shortLine, oneLine, lineOn, eventLine}
 use Rattle.lines.specs.Print.{printed, recordsOf, callText}
 

@@ -6,7 +6,7 @@ use lib.IntN.{ℤ}
 use lib.ListN.{length, take, drop}
 use Rattle.numbers.specs.Choice.{pick}
 use Rattle.text.specs.Bytes.{bytes}
-use Rattle.text.specs.Write.{signed}
+use Rattle.write.specs.Write.{signed}
 use Rattle.logline.specs.Record.{word, field, newline, all, eventLine}
 
 -- the lines of the first n records

@@ -3,13 +3,13 @@ use logline::put_event;
 use logline::word;
 use numbers::position::Position;
 use numbers::words::saturating_sub;
-use text::write::put_byte;
-use text::write::put_bytes;
-use text::write::put_field;
-use text::write::put_signed;
+use write::put_byte;
+use write::put_bytes;
+use write::put_field;
+use write::put_signed;
 ghost use mathlib.Core.Path.{_≡_};
 ghost use Prim.Native.Nat.{_+_, min};
-ghost use Rattle.text.specs.Write.{textAt, texted};
+ghost use Rattle.write.specs.Write.{textAt, texted};
 ghost use Rattle.lines.specs.Print.{recordsOf, callText, lastLine, badLine, filledQty, filledAfter};
 
 // How many records of the log are printed, of the events that several calls raised; `last` are the last call's, of which no more than 512 are.

@@ -10,8 +10,8 @@ use types.Run.{OneOf}
 use borrow.Author.Tests.{ne-eqb}
 use Rattle.numbers.specs.Choice.{pick}
 use Rattle.text.specs.Bytes.{bytes}
-use Rattle.text.specs.Write.{Text, texted}
-use Rattle.text.proofs.WriteLaws.{texted-append}
+use Rattle.write.specs.Write.{Text, texted}
+use Rattle.write.proofs.WriteLaws.{texted-append}
 use Rattle.logline.specs.Record.{word, all, eventNames, eventName, kindName, reportLine, fillLine, shortLine, oneLine, lineOn, eventLine}
 
 pub all-piece : (t : Text) (p : List ℕ) (ps : List (List ℕ)) → texted t (all (p ∷ ps)) ≡ texted (texted t p) (all ps)

@@ -5,7 +5,7 @@ use lib.Dec.{eqb}
 use lib.ListN.{getD}
 use Rattle.numbers.specs.Choice.{pick}
 use Rattle.text.specs.Bytes.{bytes}
-use Rattle.text.specs.Write.{decimal}
+use Rattle.write.specs.Write.{decimal}
 
 -- a word of a record
 abbrev pub word : List ℕ → ℕ → ℕ

@@ -1,12 +1,12 @@
 // The line that `replay` prints of a record of the log.
-use text::write::put_byte;
-use text::write::put_bytes;
-use text::write::put_field;
+use write::put_byte;
+use write::put_bytes;
+use write::put_field;
 ghost use mathlib.Core.Path.{_≡_};
 ghost use mathlib.Core.List.{[], _∷_};
 ghost use Prim.Native.Nat.{_+_, _≤_};
 ghost use lib.ListN.{length, take, drop, getD};
-ghost use Rattle.text.specs.Write.{textAt, texted};
+ghost use Rattle.write.specs.Write.{textAt, texted};
 ghost use Rattle.logline.specs.Record.{word, field, all, eventName, kindName, reportLine, fillLine, shortLine, oneLine, eventLine};
 
 // A word of a record, 0 past its end.

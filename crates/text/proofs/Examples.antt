@@ -1,13 +1,11 @@
 -- Fields and numbers at their limits, by computation. Assumes nothing.
 use mathlib.Core.Path.{_≡_, refl}
 use mathlib.Core.List.{[], _∷_, map}
-use lib.IntN.{pos, negsuc}
 use Rattle.numbers.specs.Choice.{pick}
 use Rattle.numbers.specs.Words.{fits, fitting}
 use Rattle.numbers.specs.declared.MaybeU64.the-variants.{None, Some}
 use Rattle.text.specs.Bytes.{bytes}
 use Rattle.text.specs.Fields.{parted, fields, areDigits, value, number}
-use Rattle.text.specs.Write.{digits, decimal, signed}
 
 -- "fields parted by one space": a second space parts an empty field off
 parts : fields (bytes "x  7 ") ≡ map bytes ("x" ∷ "" ∷ "7" ∷ "" ∷ [])
@@ -20,11 +18,3 @@ numbers :
     ≡ Some 0 ∷ Some 7 ∷ None ∷ Some 18446744073709551615 ∷ None ∷ None ∷ None ∷ None ∷ None ∷ []
 unfolding number areDigits value fitting fits pick
 numbers = refl
-
-texts : map decimal (0 ∷ 7 ∷ 10 ∷ 1204 ∷ []) ≡ map bytes ("0" ∷ "7" ∷ "10" ∷ "1204" ∷ [])
-unfolding decimal digits pick
-texts = refl
-
-signs : map signed (pos 0 ∷ pos 12 ∷ negsuc 0 ∷ negsuc 11 ∷ []) ≡ map bytes ("0" ∷ "12" ∷ "-1" ∷ "-12" ∷ [])
-unfolding signed decimal digits pick
-signs = refl

@@ -1,4 +1,3 @@
 pub mod Bytes
 pub mod Fields
 pub mod Cursor
-pub mod Write

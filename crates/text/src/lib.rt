@@ -1,3 +1,2 @@
-// Text as bytes on slices: a text parted into fields, the numbers that fields write, and text written into what the caller lends.
+// Text as bytes on slices: a text parted into fields, and the numbers that fields write.
 pub mod fields;
-pub mod write;

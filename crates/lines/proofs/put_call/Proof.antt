@@ -4,7 +4,7 @@ use mathlib.Core.Path.{_≡_, refl, _∙_}
 use borrow.Author.Needs.{needs}
 use native.Mathlib.Omega.{arith}
 use lib.ListN.{length, drop}
-use Rattle.text.specs.Write.{textAt, texted}
+use Rattle.write.specs.Write.{textAt, texted}
 use Rattle.lines.specs.Print.{printed}
 use Rattle.lines.proofs.PrintLaws.{call-turn, call-end, call-begin, call-cut, call-whole}
 use Rattle.lines.proofs.put_call.Statement.{statement}

@@ -1,6 +1,6 @@
 -- `logline::put_event` meets its contract. Assumes nothing.
 use borrow.Author.Needs.{needs}
-use Rattle.text.specs.Write.{texted}
+use Rattle.write.specs.Write.{texted}
 use Rattle.logline.proofs.LineLaws.{as-report, as-fill, as-one, as-short, as-none, as-past}
 use Rattle.logline.proofs.put_event.Statement.{statement}
 use Rattle.logline.proofs.put_event.Tie as tie

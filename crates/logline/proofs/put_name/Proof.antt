@@ -1,7 +1,7 @@
 -- `logline::put_name` meets its contract. Assumes nothing.
 use borrow.Author.Needs.{needs}
 use native.Mathlib.Omega.{arith}
-use Rattle.text.specs.Write.{texted}
+use Rattle.write.specs.Write.{texted}
 use Rattle.logline.proofs.LineLaws.{name-past, name-at}
 use Rattle.logline.proofs.put_name.Statement.{statement}
 use Rattle.logline.proofs.put_name.Tie as tie

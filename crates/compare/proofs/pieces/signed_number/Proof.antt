@@ -1,6 +1,6 @@
 -- `compare::pieces::signed_number` is safe and ends. Assumes nothing.
 use borrow.Author.Needs.{needs}
-use Rattle.text.proofs.SignedLaws.{below-fits, below-cast, above-cast}
+use Rattle.write.proofs.SignedLaws.{below-fits, below-cast, above-cast}
 use Rattle.compare.proofs.pieces.signed_number.Statement.{statement}
 use Rattle.compare.proofs.pieces.signed_number.Tie as tie
 

@@ -3,7 +3,7 @@ ghost use mathlib.Core.Path.{_≡_};
 ghost use mathlib.Core.List.{[], _∷_};
 ghost use Prim.Native.Nat.{_+_, _≤_};
 ghost use lib.ListN.{length, drop};
-ghost use Rattle.text.specs.Write.{textAt, texted, decimal, signed};
+ghost use Rattle.write.specs.Write.{textAt, texted, decimal, signed};
 
 pub fn put_byte(out: &mut [u8], at: usize, b: u8) -> usize
     ensures { λ r. ⌜ textAt (now (out .exit)) r ≡ texted (textAt (now (out .entry)) at) (b ∷ []) ⌝ }

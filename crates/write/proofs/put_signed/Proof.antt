@@ -1,9 +1,9 @@
--- `text::write::put_signed` meets its contract. Assumes nothing.
+-- `write::put_signed` meets its contract. Assumes nothing.
 use mathlib.Core.Path.{_∙_}
 use borrow.Author.Needs.{needs}
-use Rattle.text.proofs.SignedLaws.{below-fits, below-cast, below-more, below-text, above-cast, above-text}
-use Rattle.text.proofs.write.put_signed.Statement.{statement}
-use Rattle.text.proofs.write.put_signed.Tie as tie
+use Rattle.write.proofs.SignedLaws.{below-fits, below-cast, below-more, below-text, above-cast, above-text}
+use Rattle.write.proofs.put_signed.Statement.{statement}
+use Rattle.write.proofs.put_signed.Tie as tie
 
 pub put-signed-spec : {M : Type 1} → statement M
 put-signed-spec =

@@ -10,8 +10,8 @@ use lib.ListN.{length, take, drop, set, length-append, length-set}
 use lib.Seq.{sets, sets-eq}
 use borrow.Author.Tests.{lt-ltb, ltb-true, ltb-false}
 use Rattle.numbers.specs.Choice.{pick}
-use Rattle.text.specs.Write.{textAt, put, texted, decimal}
-use Rattle.text.proofs.WriteLaws.{decimal-one, decimal-more, tens, word-tens}
+use Rattle.write.specs.Write.{textAt, put, texted, decimal}
+use Rattle.write.proofs.WriteLaws.{decimal-one, decimal-more, tens, word-tens}
 
 -- byte by byte
 texted-sets : (l bs : List ℕ) (n : ℕ) → n + length l ≤ length bs → texted (textAt bs n) l ≡ textAt (sets bs n l) (n + length l)

@@ -1,9 +1,9 @@
--- `text::write::put_number` meets its contract. Assumes nothing.
+-- `write::put_number` meets its contract. Assumes nothing.
 use borrow.Author.Needs.{needs}
 use native.Mathlib.Omega.{arith}
-use Rattle.text.proofs.WriteLaws.{number-put}
-use Rattle.text.proofs.write.put_number.Statement.{statement}
-use Rattle.text.proofs.write.put_number.Tie as tie
+use Rattle.write.proofs.WriteLaws.{number-put}
+use Rattle.write.proofs.put_number.Statement.{statement}
+use Rattle.write.proofs.put_number.Tie as tie
 
 pub put-number-spec : {M : Type 1} → statement M
 put-number-spec =

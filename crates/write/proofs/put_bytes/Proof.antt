@@ -1,8 +1,8 @@
--- `text::write::put_bytes` meets its contract. Assumes nothing.
+-- `write::put_bytes` meets its contract. Assumes nothing.
 use borrow.Author.Needs.{needs}
 use native.Mathlib.Omega.{arith}
-use Rattle.text.proofs.write.put_bytes.Statement.{statement}
-use Rattle.text.proofs.write.put_bytes.Tie as tie
+use Rattle.write.proofs.put_bytes.Statement.{statement}
+use Rattle.write.proofs.put_bytes.Tie as tie
 
 pub put-bytes-spec : {M : Type 1} → statement M
 put-bytes-spec =

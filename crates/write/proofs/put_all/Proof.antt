@@ -1,12 +1,12 @@
--- `text::write::put_all` meets its contract. Assumes nothing.
+-- `write::put_all` meets its contract. Assumes nothing.
 use Prim.Native.Nat.{_+_, _-_, _≤_}
 use mathlib.Core.Path.{_≡_, refl, _∙_}
 use native.Mathlib.Omega.{arith}
 use lib.ListN.{length, drop, length-set}
-use Rattle.text.specs.Write.{textAt, texted}
-use Rattle.text.proofs.WriteLaws.{all-begin, all-turn, text-end}
-use Rattle.text.proofs.write.put_all.Statement.{statement}
-use Rattle.text.proofs.write.put_all.Tie as tie
+use Rattle.write.specs.Write.{textAt, texted}
+use Rattle.write.proofs.WriteLaws.{all-begin, all-turn, text-end}
+use Rattle.write.proofs.put_all.Statement.{statement}
+use Rattle.write.proofs.put_all.Tie as tie
 
 abbrev Inv-loop : tie.InvT-loop
 Inv-loop out₀ at s i₀ out i = (i ≤ length s) × (length out ≡ length out₀) × (texted (textAt out₀ at) s ≡ texted (textAt out (at + i)) (drop i s))

@@ -1,9 +1,9 @@
--- `text::write::put_field` meets its contract. Assumes nothing.
+-- `write::put_field` meets its contract. Assumes nothing.
 use mathlib.Core.List.{[], _∷_}
 use borrow.Author.Needs.{needs}
-use Rattle.text.proofs.WriteLaws.{then-piece}
-use Rattle.text.proofs.write.put_field.Statement.{statement}
-use Rattle.text.proofs.write.put_field.Tie as tie
+use Rattle.write.proofs.WriteLaws.{then-piece}
+use Rattle.write.proofs.put_field.Statement.{statement}
+use Rattle.write.proofs.put_field.Tie as tie
 
 pub put-field-spec : {M : Type 1} → statement M
 put-field-spec =

@@ -1,13 +1,13 @@
--- `text::write::put_each` meets its contract. Assumes nothing.
+-- `write::put_each` meets its contract. Assumes nothing.
 use Prim.Native.Nat.{_-_}
 use mathlib.Core.Path.{_≡_, refl, _∙_}
 use borrow.Author.Needs.{needs}
 use native.Mathlib.Omega.{arith}
 use lib.ListN.{length, drop}
-use Rattle.text.specs.Write.{textAt, texted}
-use Rattle.text.proofs.WriteLaws.{text-turn, text-end}
-use Rattle.text.proofs.write.put_each.Statement.{statement}
-use Rattle.text.proofs.write.put_each.Tie as tie
+use Rattle.write.specs.Write.{textAt, texted}
+use Rattle.write.proofs.WriteLaws.{text-turn, text-end}
+use Rattle.write.proofs.put_each.Statement.{statement}
+use Rattle.write.proofs.put_each.Tie as tie
 
 abbrev Inv-loop : tie.InvT-loop
 Inv-loop out₀ at s to₀ i₀ out to i = (length out ≡ length out₀) × (texted (textAt out₀ to₀) s ≡ texted (textAt out to) (drop i s))

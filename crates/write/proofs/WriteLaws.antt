@@ -11,7 +11,7 @@ use lib.ListN.{length, take, drop, getD, set, drop-of-length-le, length-drop}
 use lib.Seq.{take-all, drop-cons}
 use borrow.Author.Tests.{lt-ltb, le-ltb, ltb-false}
 use Rattle.numbers.specs.Choice.{pick}
-use Rattle.text.specs.Write.{Text, textAt, put, texted, digit, digits, decimal}
+use Rattle.write.specs.Write.{Text, textAt, put, texted, digit, digits, decimal}
 
 -- ---- a byte
 pub put-in : (bs : List ℕ) (n b : ℕ) → n < length bs → textAt (set bs n b) (n + 1) ≡ texted (textAt bs n) (b ∷ [])

@@ -12,8 +12,8 @@ use mir.Syntax.{w64}
 use mir.Val.{Fits, SFits, toZ, ofZ}
 use mir.Facts.{toZ-ofZ}
 use borrow.Author.Tests.{le-ltb, ltb-true}
-use Rattle.text.specs.Write.{Text, texted, decimal, signed}
-use Rattle.text.proofs.WriteLaws.{then-piece}
+use Rattle.write.specs.Write.{Text, texted, decimal, signed}
+use Rattle.write.proofs.WriteLaws.{then-piece}
 
 -- the number as the code has it, by its 64 bits
 abbrev raw : ℤ → ℤ

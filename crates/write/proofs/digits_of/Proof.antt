@@ -1,13 +1,13 @@
--- `text::write::digits_of` meets its contract. Assumes nothing.
+-- `write::digits_of` meets its contract. Assumes nothing.
 use Prim.Native.Nat.{suc, _≤_, _<_}
 use mathlib.Core.Path.{_≡_, refl, _∙_}
 use mathlib.Core.List.{_++_, append-nil}
 use native.Mathlib.Omega.{arith}
 use lib.ListN.{length, drop, length-set}
-use Rattle.text.specs.Write.{decimal}
-use Rattle.text.proofs.WriteLaws.{tens, word-tens, more-places, fewer-tens, digit-turn, digit-last}
-use Rattle.text.proofs.write.digits_of.Statement.{statement}
-use Rattle.text.proofs.write.digits_of.Tie as tie
+use Rattle.write.specs.Write.{decimal}
+use Rattle.write.proofs.WriteLaws.{tens, word-tens, more-places, fewer-tens, digit-turn, digit-last}
+use Rattle.write.proofs.digits_of.Statement.{statement}
+use Rattle.write.proofs.digits_of.Tie as tie
 
 abbrev Inv-loop : tie.InvT-loop
 Inv-loop n row₀ first₀ left₀ row first left = (first ≤ 19) × (length row ≡ 20) × (left < tens (suc first)) × (decimal n ≡ decimal left ++ drop (suc first) row)

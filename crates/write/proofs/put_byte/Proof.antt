@@ -1,8 +1,8 @@
--- `text::write::put_byte` meets its contract. Assumes nothing.
+-- `write::put_byte` meets its contract. Assumes nothing.
 use borrow.Author.Needs.{needs}
-use Rattle.text.proofs.WriteLaws.{put-in, put-past}
-use Rattle.text.proofs.write.put_byte.Statement.{statement}
-use Rattle.text.proofs.write.put_byte.Tie as tie
+use Rattle.write.proofs.WriteLaws.{put-in, put-past}
+use Rattle.write.proofs.put_byte.Statement.{statement}
+use Rattle.write.proofs.put_byte.Tie as tie
 
 pub put-byte-spec : {M : Type 1} → statement M
 put-byte-spec =

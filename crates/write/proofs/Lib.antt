@@ -1,0 +1,4 @@
+pub mod WriteLaws
+pub mod SignedLaws
+pub mod Whole
+pub mod Examples

@@ -24,11 +24,9 @@ use Rattle.book.specs.declared.OrderState.the-variants as order
 use Rattle.book.specs.declared.VenueMsg.{VenueMsg}
 use Rattle.book.specs.declared.VenueOrder.{VenueOrder}
 use Rattle.book.specs.declared.config.Config.{Config}
-use Rattle.deliveries.specs.declared.MaybeDelivery.the-variants as delivery
 use Rattle.msgs.specs.declared.Msgs.{Msgs}
 use Rattle.orders.specs.declared.Orders.{Orders}
 use Rattle.state.specs.declared.GateState.{GateState}
-use Rattle.state.specs.declared.HaltReason.the-variants.{CounterOverflow}
 use Rattle.state.specs.declared.KernelEvent.the-variants.{Expired}
 use Rattle.state.specs.declared.KernelState.{KernelState}
 use Rattle.models.specs.Rules.{ruleGate}
@@ -45,7 +43,7 @@ use Rattle.reports.specs.declared.Venue.{Venue}
 use Rattle.reports.specs.declared.report.Stamped.{Stamped}
 use Rattle.reports.specs.declared.report.Told.{Told}
 use Rattle.reports.proofs.Then.{Stopped, expected-ran, then-then, raise-on, take-on, Stamps, stamp-stop, stamp-on, stamp-at}
-use Rattle.deeds.specs.Deeds.{countsOf, ranWith, haltWith, orderFound, orderPending, activated, editMsgs, editOrders, bookedIn, scheduledIn, awaitedIn, deedIn, withLists}
+use Rattle.deeds.specs.Deeds.{countsOf, ranWith, onlyWith, deedBy, unreleasedBy, orderFound, orderPending, activated, editMsgs, editOrders, bookedIn, scheduledIn, awaitedIn, deedIn, withLists}
 use Rattle.deeds.specs.declared.Counts.{Counts}
 use Rattle.deeds.specs.declared.Deed.{Deed}
 use Rattle.deeds.specs.declared.MsgEdit.{MsgEdit}
@@ -69,6 +67,12 @@ Tells w n cfg o k pending seq v waiting t w1 =
     (s : KernelState) → waiting ≡ s .deliveries .count
     → actual (toldIn s t) w1 ≡ expected (logAt w n) (queueDelivery cfg (reportAt (v .clock .«now_ns») seq o k pending 0) fill.None (withVenue s v))
 
+-- the same once the order's lots are released
+abbrev Frees : List ℕ → ℕ → Config → VenueOrder → ExecKind → Bool → ℕ → Venue → ℕ → Told → List ℕ → Type 0
+Frees w n cfg o k pending seq v waiting t w1 =
+    (s : KernelState) → waiting ≡ s .deliveries .count
+    → actual (toldIn s t) w1 ≡ expected (logAt w n) (rules.andThen (release o (withVenue s v)) (queueDelivery cfg (reportAt (v .clock .«now_ns») seq o k pending 0) fill.None))
+
 abbrev Awaits : Told → VenueOrder → ℕ → OrderStep → Type 0
 Awaits t o n r =
     (s : KernelState) (l : Log) (a : rules.Run) (w : List ℕ) → n ≡ s .awaiting .count → actual (toldIn s t) w ≡ expected l a
@@ -86,10 +90,6 @@ Schedules t expiry id n r =
 
 abbrev Releases : VenueOrder → Venue → Gated → Type 0
 Releases o v r = ruleGate r ≡ released (o .side) (remaining o) (v .gate)
-
--- a deed that changes no list
-only-is : (w : List ℕ) (d : Deed) (f g : Told) → ((s : KernelState) → deedIn s d ≡ toldIn s f) → f ≡ g → (s : KernelState) → actual (deedIn s d) w ≡ actual (toldIn s g) w
-only-is w d f g ed ef s = ap (λ (x : Step). actual x w) (ed s) ∙ ap (λ (y : Told). actual (toldIn s y) w) ef
 
 -- ---- what an order's place holds is what comes out of it
 got-of : {A : Type 0} (a b : Bool) (x y z : Taken A) → pick a (pick b x y) z .got ≡ pick a (pick b (x .got) (y .got)) (z .got)
@@ -115,22 +115,18 @@ module _ (w w1 : List ℕ) (raised seq : ℕ) (cfg : Config) (o : VenueOrder) (e
       ∙ ap (expected (logAt w raised)) (then-then _ (book o) (scheduleExpiry expiry (o .id)))
 
 -- ---- an invalid order: the release, the report, the wait
-module _ (w : List ℕ) (raised seq : ℕ) (cfg : Config) (o : VenueOrder) (v : Venue) (r : Gated) (er : Releases o v r) where
-  pub reject-halt : r ≡ gated.Fail → (d : Deed) (f : Told) → ((s : KernelState) → deedIn s d ≡ toldIn s f) → f ≡ haltWith CounterOverflow v raised → (s : KernelState)
-      → actual (deedIn s d) w ≡ expected (logAt w raised) (reject cfg o (stampedAt seq (withVenue s v)) (withVenue s v))
+module _ (w w1 : List ℕ) (raised seq : ℕ) (cfg : Config) (o : VenueOrder) (v : Venue) (counts : Counts)
+    (t : Told) (et : Frees w raised cfg o exec.Rejected (o .«cancel_inflight») seq v (counts .deliveries) t w1) (f : OrderStep) (ef : Awaits t o (counts .awaiting) f) where
+  pub rejected : (s : KernelState) → counts ≡ countsOf s
+      → actual (deedIn s (deedBy (f .told) edit.Keep msg.Keep (f .edit))) w1 ≡ expected (logAt w raised) (reject cfg o (stampedAt seq (withVenue s v)) (withVenue s v))
   unfolding reject
-  reject-halt h d f ed ef s = only-is w d f _ ed ef s ∙ released-halt w raised o v s _ r er h
-
-  pub rejected : (g : GateState) → r ≡ gated.Done g → (counts : Counts) (w1 : List ℕ) (t : Told) → Tells w raised cfg o exec.Rejected (o .«cancel_inflight») seq (gatedBy v g) (counts .deliveries) t w1
-      → (f : OrderStep) → Awaits t o (counts .awaiting) f → (s : KernelState) → counts ≡ countsOf s
-      → actual (deedIn s (record { told = f .told; orders = edit.Keep; msgs = msg.Keep; awaiting = f .edit })) w1 ≡ expected (logAt w raised) (reject cfg o (stampedAt seq (withVenue s v)) (withVenue s v))
-  unfolding reject
-  rejected g h counts w1 t et f ef s n =
-      released-on w raised o v s _ r er h (ef s (logAt w raised) _ w1 (ap (λ (x : Counts). x .awaiting) n) (et s (ap (λ (x : Counts). x .deliveries) n)))
+  rejected s n =
+      ef s (logAt w raised) _ w1 (ap (λ (x : Counts). x .awaiting) n) (et s (ap (λ (x : Counts). x .deliveries) n))
+      ∙ ap (expected (logAt w raised)) (then-then _ _ (awaitMarked o))
 
 -- ---- the stamp, then one of the two; b is whether the order is valid, q the order in its new state
 module _ (w : List ℕ) (raised : ℕ) (cfg : Config) (o : VenueOrder) (expiry : MaybeU64) (v : Venue) (a : Stamped) (e : Stamps (v .seqs) a) where
-  pub activate-unstamped : Stopped (a .outcome) → (d : Deed) → ((s : KernelState) → deedIn s d ≡ toldIn s (record { outcome = a .outcome; venue = stampedBy v a; sent = delivery.None; raised = raised }))
+  pub activate-unstamped : Stopped (a .outcome) → (d : Deed) → ((s : KernelState) → deedIn s d ≡ toldIn s (onlyWith (a .outcome) (stampedBy v a) raised))
       → (s : KernelState) → actual (deedIn s d) w ≡ expected (logAt w raised) (activate cfg o expiry (withVenue s v))
   unfolding activate
   activate-unstamped m d ed s = ap (λ (x : Step). actual x w) (ed s) ∙ stamp-stop w raised (withVenue s v) _ a e m
@@ -153,28 +149,18 @@ abbrev without : KernelState → ℕ → KernelState
 without s i = withOrders s (ordersOf (takeAt 8 blankOrder i (ordersRow (s .orders)) .list))
 
 module _ (w : List ℕ) (raised seq index : ℕ) (cfg : Config) (o : VenueOrder) (v : Venue) (r : Gated) (er : Releases o v r) where
-  module _ (h : r ≡ gated.Fail) (f : Told) (ef : f ≡ haltWith CounterOverflow v raised) (s : KernelState) where
+  module _ (h : r ≡ gated.Fail) (s : KernelState) where
     pub cancel-halt : entryAt 8 blankOrder index (ordersRow (s .orders)) ≡ some o
-        → actual (deedIn s (record { told = f; orders = edit.Goes index; msgs = msg.Keep; awaiting = edit.Keep })) w ≡ expected (logAt w raised) (cancelBooked cfg (stampedAt seq (withVenue s v)) index (withVenue s v))
+        → actual (deedIn s (unreleasedBy v raised index)) w ≡ expected (logAt w raised) (cancelBooked cfg (stampedAt seq (withVenue s v)) index (withVenue s v))
     unfolding cancelBooked
     cancel-halt q =
-        ap (λ (y : Told). actual (toldIn (without s index) y) w) ef
-        ∙ take-on _ _ _ _ (takeAt 8 blankOrder index (ordersRow (s .orders))) refl (took 8 blankOrder index (ordersRow (s .orders)) ∙ q) (released-halt w raised o v (without s index) _ r er h)
+        take-on _ _ _ _ (takeAt 8 blankOrder index (ordersRow (s .orders))) refl (took 8 blankOrder index (ordersRow (s .orders)) ∙ q) (released-halt w raised o v (without s index) _ r er h)
 
     pub expire-halt : entryAt 8 blankOrder index (ordersRow (s .orders)) ≡ some o
-        → actual (deedIn s (record { told = f; orders = edit.Goes index; msgs = msg.Keep; awaiting = edit.Keep })) w ≡ expected (logAt w raised) (expireBooked cfg (stampedAt seq (withVenue s v)) index (withVenue s v))
+        → actual (deedIn s (unreleasedBy v raised index)) w ≡ expected (logAt w raised) (expireBooked cfg (stampedAt seq (withVenue s v)) index (withVenue s v))
     unfolding expireBooked
     expire-halt q =
-        ap (λ (y : Told). actual (toldIn (without s index) y) w) ef
-        ∙ take-on _ _ _ _ (takeAt 8 blankOrder index (ordersRow (s .orders))) refl (took 8 blankOrder index (ordersRow (s .orders)) ∙ q) (released-halt w raised o v (without s index) _ r er h)
-
-    pub pending-halt : (m : VenueMsg) (life : ℕ) → entryAt 16 blankMsg index (msgsRow (s .msgs)) ≡ some m → m .kind ≡ Activate o life
-        → actual (deedIn s (record { told = f; orders = edit.Keep; msgs = msg.Goes index; awaiting = edit.Keep })) w ≡ expected (logAt w raised) (cancelPending cfg (stampedAt seq (withVenue s v)) index (withVenue s v))
-    unfolding cancelPending
-    pending-halt m life q k =
-        let u : KernelState = withMsgs s (msgsOf (takeAt 16 blankMsg index (msgsRow (s .msgs)) .list)) in
-        ap (λ (y : Told). actual (toldIn u y) w) ef
-        ∙ take-on _ _ _ _ (takeAt 16 blankMsg index (msgsRow (s .msgs))) refl (took 16 blankMsg index (msgsRow (s .msgs)) ∙ q) (rw k (released-halt w raised o v u _ r er h))
+        take-on _ _ _ _ (takeAt 8 blankOrder index (ordersRow (s .orders))) refl (took 8 blankOrder index (ordersRow (s .orders)) ∙ q) (released-halt w raised o v (without s index) _ r er h)
 
   module _ (g : GateState) (h : r ≡ gated.Done g) (w1 : List ℕ) (counts : Counts) where
     pub canceled : (ms : Msgs) (expiry : MsgEdit) → ((x : KernelState) → withMsgs x (editMsgs expiry ms) ≡ removeExpiry (o .id) (withMsgs x ms))
@@ -189,20 +175,11 @@ module _ (w : List ℕ) (raised seq index : ℕ) (cfg : Config) (o : VenueOrder)
         (et (withMsgs (without s index) (editMsgs expiry ms)) (ap (λ (x : Counts). x .deliveries) n)
         ∙ ap (λ (x : KernelState). expected (logAt w raised) (queueDelivery cfg (reportAt (v .clock .«now_ns») seq o exec.Canceled false 0) fill.None x)) (em (withVenue (without s index) (gatedBy v g)))))
 
-    pub pending-canceled : (t : Told) → Tells w raised cfg o exec.Canceled false seq (gatedBy v g) (counts .deliveries) t w1
-        → (s : KernelState) (m : VenueMsg) (life : ℕ) → counts ≡ countsOf s → entryAt 16 blankMsg index (msgsRow (s .msgs)) ≡ some m → m .kind ≡ Activate o life
-        → actual (deedIn s (record { told = t; orders = edit.Keep; msgs = msg.Goes index; awaiting = edit.Keep })) w1 ≡ expected (logAt w raised) (cancelPending cfg (stampedAt seq (withVenue s v)) index (withVenue s v))
-    unfolding cancelPending
-    pending-canceled t et s m life n q k =
-        let u : KernelState = withMsgs s (msgsOf (takeAt 16 blankMsg index (msgsRow (s .msgs)) .list)) in
-        take-on _ _ _ _ (takeAt 16 blankMsg index (msgsRow (s .msgs))) refl (took 16 blankMsg index (msgsRow (s .msgs)) ∙ q)
-        (rw k (released-on w raised o v u _ r er h (et u (ap (λ (x : Counts). x .deliveries) n))))
-
     pub expired : (n : ℕ) (w2 : List ℕ) → logAt w1 n ≡ appendEvent (logAt w raised) (Expired (o .id) (v .clock .«now_ns»))
         → (t : Told) → Tells w1 n cfg o exec.Canceled (o .«cancel_inflight») seq (gatedBy v g) (counts .deliveries) t w2
         → (q : VenueOrder) → q ≡ inState o order.Canceled → (f : OrderStep) → Awaits t q (counts .awaiting) f
         → (s : KernelState) → counts ≡ countsOf s → entryAt 8 blankOrder index (ordersRow (s .orders)) ≡ some o
-        → actual (deedIn s (record { told = f .told; orders = edit.Goes index; msgs = msg.Keep; awaiting = f .edit })) w2 ≡ expected (logAt w raised) (expireBooked cfg (stampedAt seq (withVenue s v)) index (withVenue s v))
+        → actual (deedIn s (deedBy (f .told) (edit.Goes index) msg.Keep (f .edit))) w2 ≡ expected (logAt w raised) (expireBooked cfg (stampedAt seq (withVenue s v)) index (withVenue s v))
     unfolding expireBooked
     expired n w2 en t et q hq f ef s c k =
         take-on _ _ _ _ (takeAt 8 blankOrder index (ordersRow (s .orders))) refl (took 8 blankOrder index (ordersRow (s .orders)) ∙ k)
@@ -210,6 +187,15 @@ module _ (w : List ℕ) (raised seq index : ℕ) (cfg : Config) (o : VenueOrder)
         (raise-on _ _ _ _ _ en
         (ef (without s index) (logAt w1 n) _ w2 (ap (λ (x : Counts). x .awaiting) c) (et (without s index) (ap (λ (x : Counts). x .deliveries) c))
         ∙ ap (λ (y : VenueOrder). expected (logAt w1 n) (rules.andThen (queueDelivery cfg (reportAt (v .clock .«now_ns») seq o exec.Canceled (o .«cancel_inflight») 0) fill.None (withVenue (without s index) (gatedBy v g))) (awaitMarked y))) hq)))
+
+module _ (w w1 : List ℕ) (raised seq index : ℕ) (cfg : Config) (o : VenueOrder) (v : Venue) (counts : Counts) (t : Told) (et : Frees w raised cfg o exec.Canceled false seq v (counts .deliveries) t w1) where
+  pub pending-canceled : (s : KernelState) (m : VenueMsg) (life : ℕ) → counts ≡ countsOf s → entryAt 16 blankMsg index (msgsRow (s .msgs)) ≡ some m → m .kind ≡ Activate o life
+      → actual (deedIn s (record { told = t; orders = edit.Keep; msgs = msg.Goes index; awaiting = edit.Keep })) w1 ≡ expected (logAt w raised) (cancelPending cfg (stampedAt seq (withVenue s v)) index (withVenue s v))
+  unfolding cancelPending
+  pending-canceled s m life n q k =
+      let u : KernelState = withMsgs s (msgsOf (takeAt 16 blankMsg index (msgsRow (s .msgs)) .list)) in
+      take-on _ _ _ _ (takeAt 16 blankMsg index (msgsRow (s .msgs))) refl (took 16 blankMsg index (msgsRow (s .msgs)) ∙ q)
+      (rw k (et u (ap (λ (x : Counts). x .deliveries) n)))
 
 module _ (w w1 : List ℕ) (raised seq index : ℕ) (cfg : Config) (o : VenueOrder) (v : Venue) (counts : Counts) (t : Told) (et : Tells w raised cfg o exec.CancelRejected false seq v (counts .deliveries) t w1) where
   pub late-told : (s : KernelState) → counts ≡ countsOf s → entryAt 8 blankOrder index (ordersRow (s .awaiting)) ≡ some o
@@ -257,7 +243,7 @@ module _ (w : List ℕ) (raised id : ℕ) (cfg : Config) (v : Venue) (os : Order
   abbrev lists : KernelState → KernelState
   lists s = withLists s os ms ws
 
-  pub cancel-unstamped : Stopped (a .outcome) → (d : Deed) → ((s : KernelState) → deedIn s d ≡ toldIn s (record { outcome = a .outcome; venue = stampedBy v a; sent = delivery.None; raised = raised }))
+  pub cancel-unstamped : Stopped (a .outcome) → (d : Deed) → ((s : KernelState) → deedIn s d ≡ toldIn s (onlyWith (a .outcome) (stampedBy v a) raised))
       → (s : KernelState) → actual (deedIn (lists s) d) w ≡ expected (logAt w raised) (cancel cfg id (withVenue (lists s) v))
   unfolding cancel
   cancel-unstamped m d ed s = ap (λ (x : Step). actual x w) (ed (lists s)) ∙ stamp-stop w raised (withVenue (lists s) v) _ a e m
@@ -307,23 +293,23 @@ module _ (w : List ℕ) (raised id : ℕ) (cfg : Config) (v : Venue) (os : Order
             stamp-at w raised (withVenue (lists s) v) _ a e h (λ t. cancelAwaiting cfg t i (after s)) (rw (not-booked, not-pending, stands (hasId id) ws late el i o hl))
             (ed (lists s) n (stands-there (hasId id) ws late el i o hl))
 
-        pub cancel-nothing : late ≡ place.None → (d : Deed) (f : Told) → ((s : KernelState) → deedIn s d ≡ toldIn s f) → f ≡ ranWith (stampedBy v a) raised
+        pub cancel-nothing : late ≡ place.None → (d : Deed) → ((s : KernelState) → deedIn s d ≡ toldIn s (ranWith (stampedBy v a) raised))
             → (s : KernelState) → actual (deedIn (lists s) d) w ≡ expected (logAt w raised) (cancel cfg id (withVenue (lists s) v))
         unfolding cancel onSome
-        cancel-nothing hl d f ed ef s =
-            only-is w d f _ ed ef (lists s)
+        cancel-nothing hl d ed s =
+            ap (λ (x : Step). actual x w) (ed (lists s))
             ∙ stamp-on w raised (withVenue (lists s) v) _ a e h (rw (not-booked, not-pending, found-no (foundIn (hasId id) (live 8 (ordersRow ws))) (ws .slots) (sym hl ∙ el)) (expected-ran (logAt w raised) (after s)))
 
 -- ---- an expiry: nothing, or stamped
 module _ (w : List ℕ) (raised id : ℕ) (cfg : Config) (v : Venue) (os : Orders) (booked : OrderAt) (eb : booked ≡ orderFound (foundIn (isOpen id) (live 8 (ordersRow os))) (os .slots)) where
-  pub expire-nothing : booked ≡ place.None → (d : Deed) (f : Told) → ((s : KernelState) → deedIn s d ≡ toldIn s f) → f ≡ ranWith v raised
+  pub expire-nothing : booked ≡ place.None → (d : Deed) → ((s : KernelState) → deedIn s d ≡ toldIn s (ranWith v raised))
       → (s : KernelState) → actual (deedIn (withOrders s os) d) w ≡ expected (logAt w raised) (expire cfg id (withVenue (withOrders s os) v))
   unfolding expire onSome
-  expire-nothing hb d f ed ef s =
-      only-is w d f _ ed ef (withOrders s os) ∙ rw (found-no (foundIn (isOpen id) (live 8 (ordersRow os))) (os .slots) (sym hb ∙ eb)) (expected-ran (logAt w raised) (withVenue (withOrders s os) v))
+  expire-nothing hb d ed s =
+      ap (λ (x : Step). actual x w) (ed (withOrders s os)) ∙ rw (found-no (foundIn (isOpen id) (live 8 (ordersRow os))) (os .slots) (sym hb ∙ eb)) (expected-ran (logAt w raised) (withVenue (withOrders s os) v))
 
   module _ (i : ℕ) (o : VenueOrder) (hb : booked ≡ place.At i o) (a : Stamped) (e : Stamps (v .seqs) a) where
-    pub expire-unstamped : Stopped (a .outcome) → (d : Deed) → ((s : KernelState) → deedIn s d ≡ toldIn s (record { outcome = a .outcome; venue = stampedBy v a; sent = delivery.None; raised = raised }))
+    pub expire-unstamped : Stopped (a .outcome) → (d : Deed) → ((s : KernelState) → deedIn s d ≡ toldIn s (onlyWith (a .outcome) (stampedBy v a) raised))
         → (s : KernelState) → actual (deedIn (withOrders s os) d) w ≡ expected (logAt w raised) (expire cfg id (withVenue (withOrders s os) v))
     unfolding expire onSome
     expire-unstamped m d ed s =

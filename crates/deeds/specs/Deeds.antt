@@ -29,6 +29,7 @@ use Rattle.state.specs.declared.KernelState.{KernelState}
 use Rattle.rules.specs.Run.{Run}
 use Rattle.rules.specs.Messages.{valid, activate, cancel, expire}
 use Rattle.reports.specs.Report.{toldIn}
+use Rattle.reports.specs.declared.Outcome.{Outcome}
 use Rattle.reports.specs.declared.Outcome.the-variants.{Ran, Halt}
 use Rattle.reports.specs.declared.Step.{Step}
 use Rattle.reports.specs.declared.Venue.{Venue}
@@ -56,9 +57,26 @@ ranWith v n = record { outcome = Ran; venue = v; sent = delivery.None; raised = 
 abbrev pub haltWith : HaltReason → Venue → ℕ → Told
 haltWith h v n = record { outcome = Halt h; venue = v; sent = delivery.None; raised = n }
 
+abbrev pub onlyWith : Outcome → Venue → ℕ → Told
+onlyWith o v n = record { outcome = o; venue = v; sent = delivery.None; raised = n }
+
 -- all that was told, and then a full list or number
 abbrev pub thenFull : Told → Told
 thenFull t = record { outcome = Halt CounterOverflow; venue = t .venue; sent = t .sent; raised = t .raised }
+
+-- a step that leaves its list as it is
+abbrev pub keepOrders : Told → OrderStep
+keepOrders t = record { told = t; edit = order.Keep }
+
+abbrev pub keepMsgs : Told → MsgStep
+keepMsgs t = record { told = t; edit = msg.Keep }
+
+abbrev pub deedBy : Told → OrderEdit → MsgEdit → OrderEdit → Deed
+deedBy t o m a = record { told = t; orders = o; msgs = m; awaiting = a }
+
+-- a booked order leaves, and its lots are not released
+abbrev pub unreleasedBy : Venue → ℕ → ℕ → Deed
+unreleasedBy v n i = deedBy (haltWith CounterOverflow v n) (order.Goes i) msg.Keep order.Keep
 
 -- ---- where a search leads: the place, and the order that stands there
 abbrev pub orderFound : Option ℕ → List VenueOrder → OrderAt

@@ -37,17 +37,20 @@ ghost use Rattle.book.specs.Capacities.{ordersCapacity, msgsCapacity};
 ghost use Rattle.book.specs.Entries.{blankOrder, blankMsg, remaining, isOpen, hasId, isActivation};
 ghost use Rattle.orders.specs.Rows.{ordersRow};
 ghost use Rattle.msgs.specs.Rows.{msgsRow};
-ghost use Rattle.book.specs.declared.MsgKind.the-variants.{Activate};
+ghost use Rattle.book.specs.declared.MsgKind.the-variants.{Activate, Expire};
 ghost use Rattle.book.specs.declared.VenueMsg.{VenueMsg};
 ghost use Rattle.state.specs.declared.KernelState.{KernelState};
 ghost use Rattle.state.specs.With.{withOrders, withMsgs};
+ghost use Rattle.state.specs.declared.KernelEvent.the-variants.{Expired};
 ghost use Rattle.models.specs.Rules.{ruleGate};
 ghost use Rattle.rules.specs.Run.{Run, andThen};
 ghost use Rattle.rules.specs.Report.{queueDelivery, reportAt};
-ghost use Rattle.rules.specs.Messages.{released, awaitMarked, book, removeExpiry, valid, scheduleExpiry, accept, reject, activate, activation, cancelBooked, cancelPending, cancelAwaiting, cancel, expireBooked, expire};
-ghost use Rattle.reports.specs.Log.{Log, logAt, expected, actual, stampedAt};
+ghost use Rattle.rules.specs.Messages.{released, release, awaitMarked, book, removeExpiry, valid, schedule, scheduleExpiry, accept, reject, activate, activation, cancelBooked, cancelPending, cancelAwaiting, cancel, expireBooked, expire};
+ghost use Rattle.reports.specs.Log.{Log, logAt, appendEvent, expected, actual, stampedAt};
 ghost use Rattle.reports.specs.Report.{withVenue, toldIn};
-ghost use Rattle.deeds.specs.Deeds.{countsOf, ranWith, haltWith, thenFull, orderFound, orderPending, editMsgs, bookedIn, scheduledIn, awaitedIn, deedIn, withLists, expiryOf, lifeOf, timeOf, actsAt};
+ghost use Rattle.reports.specs.declared.Outcome.the-variants.{Ran};
+ghost use Rattle.deeds.specs.declared.MsgEdit.the-variants.{Keep};
+ghost use Rattle.deeds.specs.Deeds.{countsOf, ranWith, haltWith, onlyWith, thenFull, keepOrders, keepMsgs, deedBy, unreleasedBy, orderFound, orderPending, editMsgs, bookedIn, scheduledIn, awaitedIn, deedIn, withLists, expiryOf, lifeOf, timeOf, actsAt};
 
 // How many entries the lists have that a message may add to.
 pub struct Counts {
@@ -141,6 +144,46 @@ fn then_full(told: Told) -> Told
     }
 }
 
+// A step that leaves its list of orders as it is: what was told stands, or the list is full.
+fn keep_orders(told: Told) -> OrderStep
+    ensures { λ r. ⌜ r ≡ keepOrders told ⌝ }
+{
+    OrderStep {
+        told,
+        edit: OrderEdit::Keep,
+    }
+}
+
+fn full_orders(told: Told) -> OrderStep
+    ensures { λ r. ⌜ r ≡ keepOrders (thenFull told) ⌝ }
+{
+    let full = then_full(told);
+    OrderStep {
+        told: full,
+        edit: OrderEdit::Keep,
+    }
+}
+
+// The same of the messages.
+fn keep_msgs(told: Told) -> MsgStep
+    ensures { λ r. ⌜ r ≡ keepMsgs told ⌝ }
+{
+    MsgStep {
+        told,
+        edit: MsgEdit::Keep,
+    }
+}
+
+fn full_msgs(told: Told) -> MsgStep
+    ensures { λ r. ⌜ r ≡ keepMsgs (thenFull told) ⌝ }
+{
+    let full = then_full(told);
+    MsgStep {
+        told: full,
+        edit: MsgEdit::Keep,
+    }
+}
+
 // A report on an order, and its delivery on the way.
 fn report(
     log: &mut [u64],
@@ -167,6 +210,28 @@ fn release(order: VenueOrder, g: GateState) -> Gated
     gate::release(g, side, order.remaining())
 }
 
+// The order's lots are live no more, then its report.
+fn report_freed(
+    log: &mut [u64],
+    raised: u64,
+    cfg: Config,
+    order: VenueOrder,
+    kind: ExecKind,
+    pending: bool,
+    seq: u64,
+    mut v: Venue,
+    waiting: usize,
+) -> Told
+    ensures { λ r. ⌜ ((s : KernelState) → waiting ≡ s .deliveries .count → actual (toldIn s r) (now (log .exit)) ≡ expected (logAt (now (log .entry)) raised) (andThen (release order (withVenue s v)) (queueDelivery cfg (reportAt (v .clock .«now_ns») seq order kind pending 0) None))) ⌝ }
+{
+    let freed = release(order, v.gate);
+    let Gated::Done(kept) = freed else {
+        return halted(HaltReason::CounterOverflow, v, raised);
+    };
+    v.gate = kept;
+    report(log, raised, cfg, order, kind, pending, seq, v, waiting)
+}
+
 // ---- steps that follow what was told: where that did not run they do nothing
 
 // The order awaits a cancel's outcome, if one is in flight.
@@ -175,23 +240,13 @@ fn await_marked(told: Told, order: VenueOrder, awaiting: usize) -> OrderStep
 {
     let o = told.outcome;
     let Outcome::Ran = o else {
-        return OrderStep {
-            told,
-            edit: OrderEdit::Keep,
-        };
+        return keep_orders(told);
     };
     if !order.cancel_inflight {
-        return OrderStep {
-            told,
-            edit: OrderEdit::Keep,
-        };
+        return keep_orders(told);
     }
     if awaiting >= orders::CAPACITY {
-        let full = then_full(told);
-        return OrderStep {
-            told: full,
-            edit: OrderEdit::Keep,
-        };
+        return full_orders(told);
     }
     OrderStep {
         told,
@@ -204,17 +259,10 @@ fn book_order(told: Told, order: VenueOrder, booked: usize) -> OrderStep
 {
     let o = told.outcome;
     let Outcome::Ran = o else {
-        return OrderStep {
-            told,
-            edit: OrderEdit::Keep,
-        };
+        return keep_orders(told);
     };
     if booked >= orders::CAPACITY {
-        let full = then_full(told);
-        return OrderStep {
-            told: full,
-            edit: OrderEdit::Keep,
-        };
+        return full_orders(told);
     }
     OrderStep {
         told,
@@ -222,48 +270,86 @@ fn book_order(told: Told, order: VenueOrder, booked: usize) -> OrderStep
     }
 }
 
-// The order's expiry, if it has one, takes the next number and its place among the messages.
+// The order's expiry, if it has one, takes its place among the messages.
 fn schedule_expiry(told: Told, expiry: MaybeU64, id: u64, queued: usize) -> MsgStep
     ensures { λ r. ⌜ ((s : KernelState) (l : Log) (a : Run) (w : List ℕ) → queued ≡ s .msgs .count → actual (toldIn s told) w ≡ expected l a → actual (scheduledIn s r) w ≡ expected l (andThen a (scheduleExpiry expiry id))) ⌝ }
 {
     let o = told.outcome;
     let Outcome::Ran = o else {
-        return MsgStep {
-            told,
-            edit: MsgEdit::Keep,
-        };
+        return keep_msgs(told);
     };
     let MaybeU64::Some(eff_ns) = expiry else {
-        return MsgStep {
-            told,
-            edit: MsgEdit::Keep,
-        };
+        return keep_msgs(told);
     };
+    schedule(told, eff_ns, id, queued)
+}
+
+// An expiry at a time takes the next number and its place; what was told ran.
+fn schedule(mut told: Told, eff_ns: u64, id: u64, queued: usize) -> MsgStep
+    ensures { λ r. ⌜ ((s : KernelState) (w : List ℕ) → queued ≡ s .msgs .count → told .outcome ≡ Ran → actual (scheduledIn s r) w ≡ expected (logAt w (told .raised)) (schedule «eff_ns» (Expire id) (toldIn s told .state))) ⌝ }
+{
     let seq = told.venue.seqs.next_msg_seq;
     let next = checked_add(seq, 1);
     let MaybeU64::Some(next_msg_seq) = next else {
-        let full = then_full(told);
-        return MsgStep {
-            told: full,
-            edit: MsgEdit::Keep,
-        };
+        return full_msgs(told);
     };
-    let mut numbered = told;
-    numbered.venue.seqs.next_msg_seq = next_msg_seq;
+    told.venue.seqs.next_msg_seq = next_msg_seq;
     if queued >= msgs::CAPACITY {
-        let full = then_full(numbered);
-        return MsgStep {
-            told: full,
-            edit: MsgEdit::Keep,
-        };
+        return full_msgs(told);
     }
     MsgStep {
-        told: numbered,
+        told,
         edit: MsgEdit::Comes(VenueMsg {
             eff_ns,
             seq,
             kind: MsgKind::Expire { id },
         }),
+    }
+}
+
+// ---- deeds of what was told
+
+// The order of a step awaits, and so much becomes of the booked ones.
+fn await_deed(f: OrderStep, orders: OrderEdit) -> Deed
+    ensures { λ r. ⌜ r ≡ deedBy (f .told) orders Keep (f .edit) ⌝ }
+{
+    let told = f.told;
+    let awaiting = f.edit;
+    Deed {
+        told,
+        orders,
+        msgs: MsgEdit::Keep,
+        awaiting,
+    }
+}
+
+// A deed that changes no list and sends nothing.
+fn only(outcome: Outcome, venue: Venue, raised: u64) -> Deed
+    ensures { λ r. ⌜ ((s : KernelState) → deedIn s r ≡ toldIn s (onlyWith outcome venue raised)) ⌝ }
+{
+    Deed {
+        told: Told {
+            outcome,
+            venue,
+            sent: MaybeDelivery::None,
+            raised,
+        },
+        orders: OrderEdit::Keep,
+        msgs: MsgEdit::Keep,
+        awaiting: OrderEdit::Keep,
+    }
+}
+
+// A booked order leaves, and its lots are not live.
+fn unreleased(venue: Venue, raised: u64, index: usize) -> Deed
+    ensures { λ r. ⌜ r ≡ unreleasedBy venue raised index ⌝ }
+{
+    let told = halted(HaltReason::CounterOverflow, venue, raised);
+    Deed {
+        told,
+        orders: OrderEdit::Goes(index),
+        msgs: MsgEdit::Keep,
+        awaiting: OrderEdit::Keep,
     }
 }
 
@@ -318,15 +404,7 @@ fn reject(
 ) -> Deed
     ensures { λ r. ⌜ ((s : KernelState) → counts ≡ countsOf s → actual (deedIn s r) (now (log .exit)) ≡ expected (logAt (now (log .entry)) raised) (reject cfg order (stampedAt seq (withVenue s v)) (withVenue s v))) ⌝ }
 {
-    let live = v.gate;
-    let freed = release(order, live);
-    let Gated::Done(kept) = freed else {
-        let fail = halted(HaltReason::CounterOverflow, v, raised);
-        return only(fail);
-    };
-    let mut u = v;
-    u.gate = kept;
-    let t = report(
+    let t = report_freed(
         log,
         raised,
         cfg,
@@ -334,30 +412,11 @@ fn reject(
         ExecKind::Rejected,
         order.cancel_inflight,
         seq,
-        u,
+        v,
         counts.deliveries,
     );
     let f = await_marked(t, order, counts.awaiting);
-    let told = f.told;
-    let awaiting = f.edit;
-    Deed {
-        told,
-        orders: OrderEdit::Keep,
-        msgs: MsgEdit::Keep,
-        awaiting,
-    }
-}
-
-// A deed that changes no list.
-fn only(told: Told) -> Deed
-    ensures { λ r. ⌜ ((s : KernelState) → deedIn s r ≡ toldIn s told) ⌝ }
-{
-    Deed {
-        told,
-        orders: OrderEdit::Keep,
-        msgs: MsgEdit::Keep,
-        awaiting: OrderEdit::Keep,
-    }
+    await_deed(f, OrderEdit::Keep)
 }
 
 fn is_valid(order: VenueOrder) -> bool
@@ -373,31 +432,25 @@ fn activate(
     cfg: Config,
     order: VenueOrder,
     expiry: MaybeU64,
-    v: Venue,
+    mut v: Venue,
     counts: Counts,
 ) -> Deed
     ensures { λ r. ⌜ ((s : KernelState) → counts ≡ countsOf s → actual (deedIn s r) (now (log .exit)) ≡ expected (logAt (now (log .entry)) raised) (activate cfg order expiry (withVenue s v))) ⌝ }
 {
-    let before = v.seqs;
-    let a = stamp(before);
+    let seq = v.seqs.stamp_seq;
+    let a = stamp(v.seqs);
     let after = a.seqs;
-    let mut u = v;
-    u.seqs = after;
+    v.seqs = after;
     let o = a.outcome;
     let Outcome::Ran = o else {
-        return only(Told {
-            outcome: o,
-            venue: u,
-            sent: MaybeDelivery::None,
-            raised,
-        });
+        return only(o, v, raised);
     };
     if !is_valid(order) {
         let dead = order.in_state(OrderState::Rejected);
-        return reject(log, raised, cfg, dead, before.stamp_seq, u, counts);
+        return reject(log, raised, cfg, dead, seq, v, counts);
     }
     let live = order.in_state(OrderState::Active);
-    accept(log, raised, cfg, live, expiry, before.stamp_seq, u, counts)
+    accept(log, raised, cfg, live, expiry, seq, v, counts)
 }
 
 // The expiry's time, and room for its number, are tested before the message leaves.
@@ -509,25 +562,17 @@ fn cancel_booked(
     seq: u64,
     index: usize,
     order: VenueOrder,
-    v: Venue,
+    mut v: Venue,
     msgs: Msgs,
     counts: Counts,
 ) -> Deed
     ensures { λ r. ⌜ ((s : KernelState) → counts ≡ countsOf (withMsgs s msgs) → entryAt ordersCapacity blankOrder index (ordersRow (s .orders)) ≡ some order → actual (deedIn (withMsgs s msgs) r) (now (log .exit)) ≡ expected (logAt (now (log .entry)) raised) (cancelBooked cfg (stampedAt seq (withVenue (withMsgs s msgs) v)) index (withVenue (withMsgs s msgs) v))) ⌝ }
 {
-    let live = v.gate;
-    let r = release(order, live);
+    let r = release(order, v.gate);
     let Gated::Done(kept) = r else {
-        let fail = halted(HaltReason::CounterOverflow, v, raised);
-        return Deed {
-            told: fail,
-            orders: OrderEdit::Goes(index),
-            msgs: MsgEdit::Keep,
-            awaiting: OrderEdit::Keep,
-        };
+        return unreleased(v, raised, index);
     };
-    let mut u = v;
-    u.gate = kept;
+    v.gate = kept;
     let expiry = expiry_edit(order.id, msgs);
     let told = report(
         log,
@@ -537,7 +582,7 @@ fn cancel_booked(
         ExecKind::Canceled,
         false,
         seq,
-        u,
+        v,
         counts.deliveries,
     );
     Deed {
@@ -560,20 +605,7 @@ fn cancel_pending(
 ) -> Deed
     ensures { λ r. ⌜ ((s : KernelState) (m : VenueMsg) (life : ℕ) → counts ≡ countsOf s → entryAt msgsCapacity blankMsg index (msgsRow (s .msgs)) ≡ some m → m .kind ≡ Activate order life → actual (deedIn s r) (now (log .exit)) ≡ expected (logAt (now (log .entry)) raised) (cancelPending cfg (stampedAt seq (withVenue s v)) index (withVenue s v))) ⌝ }
 {
-    let live = v.gate;
-    let r = release(order, live);
-    let Gated::Done(kept) = r else {
-        let fail = halted(HaltReason::CounterOverflow, v, raised);
-        return Deed {
-            told: fail,
-            orders: OrderEdit::Keep,
-            msgs: MsgEdit::Goes(index),
-            awaiting: OrderEdit::Keep,
-        };
-    };
-    let mut u = v;
-    u.gate = kept;
-    let told = report(
+    let told = report_freed(
         log,
         raised,
         cfg,
@@ -581,7 +613,7 @@ fn cancel_pending(
         ExecKind::Canceled,
         false,
         seq,
-        u,
+        v,
         counts.deliveries,
     );
     Deed {
@@ -629,7 +661,7 @@ fn cancel(
     raised: u64,
     cfg: Config,
     id: u64,
-    v: Venue,
+    mut v: Venue,
     orders: Orders,
     msgs: Msgs,
     awaiting: Orders,
@@ -637,46 +669,36 @@ fn cancel(
 ) -> Deed
     ensures { λ r. ⌜ ((s : KernelState) → counts ≡ countsOf (withLists s orders msgs awaiting) → actual (deedIn (withLists s orders msgs awaiting) r) (now (log .exit)) ≡ expected (logAt (now (log .entry)) raised) (cancel cfg id (withVenue (withLists s orders msgs awaiting) v))) ⌝ }
 {
-    let before = v.seqs;
-    let a = stamp(before);
+    let seq = v.seqs.stamp_seq;
+    let a = stamp(v.seqs);
     let after = a.seqs;
-    let mut u = v;
-    u.seqs = after;
+    v.seqs = after;
     let o = a.outcome;
     let Outcome::Ran = o else {
-        return only(Told {
-            outcome: o,
-            venue: u,
-            sent: MaybeDelivery::None,
-            raised,
-        });
+        return only(o, v, raised);
     };
     let booked = booked_at(id, orders);
     if let OrderAt::At(index, order) = booked {
-        return cancel_booked(
-            log,
-            raised,
-            cfg,
-            before.stamp_seq,
-            index,
-            order,
-            u,
-            msgs,
-            counts,
-        );
+        return cancel_booked(log, raised, cfg, seq, index, order, v, msgs, counts);
     }
     let pending = pending_at(id, msgs);
     if let OrderAt::At(index, order) = pending {
-        return cancel_pending(log, raised, cfg, before.stamp_seq, index, order, u, counts);
+        return cancel_pending(log, raised, cfg, seq, index, order, v, counts);
     }
     let late = awaiting_at(id, awaiting);
     if let OrderAt::At(index, order) = late {
-        return cancel_awaiting(log, raised, cfg, before.stamp_seq, index, order, u, counts);
+        return cancel_awaiting(log, raised, cfg, seq, index, order, v, counts);
     }
-    only(ran(u, raised))
+    only(Outcome::Ran, v, raised)
 }
 
 // ---- an expiry
+
+fn emit_expired(log: &mut [u64], raised: u64, order_id: u64, at_ns: u64) -> u64
+    ensures { λ r. ⌜ logAt (now (log .exit)) r ≡ appendEvent (logAt (now (log .entry)) raised) (Expired «order_id» «at_ns») ⌝ }
+{
+    emit(log, raised, KernelEvent::Expired { order_id, at_ns })
+}
 
 fn expire_booked(
     log: &mut [u64],
@@ -685,32 +707,17 @@ fn expire_booked(
     seq: u64,
     index: usize,
     order: VenueOrder,
-    v: Venue,
+    mut v: Venue,
     counts: Counts,
 ) -> Deed
     ensures { λ r. ⌜ ((s : KernelState) → counts ≡ countsOf s → entryAt ordersCapacity blankOrder index (ordersRow (s .orders)) ≡ some order → actual (deedIn s r) (now (log .exit)) ≡ expected (logAt (now (log .entry)) raised) (expireBooked cfg (stampedAt seq (withVenue s v)) index (withVenue s v))) ⌝ }
 {
-    let live = v.gate;
-    let r = release(order, live);
+    let r = release(order, v.gate);
     let Gated::Done(kept) = r else {
-        let fail = halted(HaltReason::CounterOverflow, v, raised);
-        return Deed {
-            told: fail,
-            orders: OrderEdit::Goes(index),
-            msgs: MsgEdit::Keep,
-            awaiting: OrderEdit::Keep,
-        };
+        return unreleased(v, raised, index);
     };
-    let mut u = v;
-    u.gate = kept;
-    let n = emit(
-        log,
-        raised,
-        KernelEvent::Expired {
-            order_id: order.id,
-            at_ns: u.clock.now_ns,
-        },
-    );
+    v.gate = kept;
+    let n = emit_expired(log, raised, order.id, v.clock.now_ns);
     let t = report(
         log,
         n,
@@ -719,19 +726,12 @@ fn expire_booked(
         ExecKind::Canceled,
         order.cancel_inflight,
         seq,
-        u,
+        v,
         counts.deliveries,
     );
     let gone = order.in_state(OrderState::Canceled);
     let f = await_marked(t, gone, counts.awaiting);
-    let told = f.told;
-    let awaiting = f.edit;
-    Deed {
-        told,
-        orders: OrderEdit::Goes(index),
-        msgs: MsgEdit::Keep,
-        awaiting,
-    }
+    await_deed(f, OrderEdit::Goes(index))
 }
 
 // Nothing, if the order is not booked and open.
@@ -740,7 +740,7 @@ fn expire(
     raised: u64,
     cfg: Config,
     id: u64,
-    v: Venue,
+    mut v: Venue,
     orders: Orders,
     counts: Counts,
 ) -> Deed
@@ -748,23 +748,17 @@ fn expire(
 {
     let booked = booked_at(id, orders);
     let OrderAt::At(index, order) = booked else {
-        return only(ran(v, raised));
+        return only(Outcome::Ran, v, raised);
     };
-    let before = v.seqs;
-    let a = stamp(before);
+    let seq = v.seqs.stamp_seq;
+    let a = stamp(v.seqs);
     let after = a.seqs;
-    let mut u = v;
-    u.seqs = after;
+    v.seqs = after;
     let o = a.outcome;
     let Outcome::Ran = o else {
-        return only(Told {
-            outcome: o,
-            venue: u,
-            sent: MaybeDelivery::None,
-            raised,
-        });
+        return only(o, v, raised);
     };
-    expire_booked(log, raised, cfg, before.stamp_seq, index, order, u, counts)
+    expire_booked(log, raised, cfg, seq, index, order, v, counts)
 }
 
 // ---- the first message
@@ -785,16 +779,14 @@ pub fn deed_of(
     ensures { λ r. ⌜ ((s : KernelState) → counts ≡ countsOf (withLists s orders msgs awaiting) → actual (deedIn (withLists s orders msgs awaiting) r) (now (log .exit)) ≡ expected (logAt (now (log .entry)) raised) (actsAt cfg kind expiry (withVenue (withLists s orders msgs awaiting) v))) ⌝ }
 {
     match kind {
-        MsgKind::Cancel { id } => cancel(log, raised, cfg, id, v, orders, msgs, awaiting, counts),
-        MsgKind::Activate { order, life: _ } => activate(
-            log,
-            raised,
-            cfg,
-            order,
-            expiry,
-            v,
-            counts,
-        ),
-        MsgKind::Expire { id } => expire(log, raised, cfg, id, v, orders, counts),
+        MsgKind::Cancel { id } => {
+            return cancel(log, raised, cfg, id, v, orders, msgs, awaiting, counts);
+        }
+        MsgKind::Activate { order, life: _ } => {
+            return activate(log, raised, cfg, order, expiry, v, counts);
+        }
+        MsgKind::Expire { id } => {
+            return expire(log, raised, cfg, id, v, orders, counts);
+        }
     }
 }

@@ -10,15 +10,15 @@ deed-of-spec =
     (λ c. search needs)
     (λ c κs. search needs)
     (λ c. search needs)
-    (λ c κs. search needs)
-    (λ c. search needs)
-    (λ c κs. search needs)
-    (λ c. search needs)
     (λ c. let b2 = c .before .before in let b5 = b2 .before .before .before in
     λ s n. rw (b5 .kind .given .1) (b2 .cancel .ensures s n))
     (λ c. search needs)
+    (λ c κs. search needs)
+    (λ c. search needs)
     (λ c. let b2 = c .before .before in let b5 = b2 .before .before .before in let b8 = b5 .before .before .before in
     λ s n. rw (b5 .kind2 .given .1) (b2 .activate .ensures (withLists s (b8 .args .orders) (b8 .args .msgs) (b8 .args .awaiting)) n))
+    (λ c. search needs)
+    (λ c κs. search needs)
     (λ c. search needs)
     (λ c. let b2 = c .before .before in let b5 = b2 .before .before .before in let b8 = b5 .before .before .before in
     λ s n. rw (b5 .kind3 .given .1) (b2 .expire .ensures (withLists s (b8 .args .orders) (b8 .args .msgs) (b8 .args .awaiting)) n)))

@@ -11,15 +11,14 @@ expire-spec =
     (λ c. search needs)
     (λ c. search needs)
     (λ c κs. search needs)
-    (λ c κs. search needs)
-    (λ c. let b1 = c .before in let b2 = b1 .before in let b4 = b2 .before .before in let b6 = b4 .before .before in
-    λ s n. expire-nothing _ _ _ (b6 .args .cfg) (b6 .args .v) (b6 .args .orders) (b4 .booked-at .result) (b4 .booked-at .ensures) (b2 .enum-told .given .1) (c .only .result) (b1 .ran .result) (c .only .ensures) (b1 .ran .ensures) s)
-    (λ c κs. search needs)
-    (λ c. search needs)
-    (λ c κs. search needs)
-    (λ c. let b1 = c .before in let b3 = b1 .before .before in let b6 = b3 .before .before .before in let b8 = b6 .before .before in let b10 = b8 .before .before in
-    λ s n. expire-unstamped _ _ _ (b10 .args .cfg) (b10 .args .v) (b10 .args .orders) (b8 .booked-at .result) (b8 .booked-at .ensures) _ _ (b6 .booked .given .1) (b3 .stamp .result) (b3 .stamp .ensures) (b1 .match2 .keys2) (c .only2 .result) (c .only2 .ensures) s)
+    (λ c. let b1 = c .before in let b3 = b1 .before .before in let b5 = b3 .before .before in
+    λ s n. expire-nothing _ _ _ (b5 .args .cfg) (b5 .args .v) (b5 .args .orders) (b3 .booked-at .result) (b3 .booked-at .ensures) (b1 .enum-told .given .1) (c .only .result) (c .only .ensures) s)
     (λ c κs. search needs)
     (λ c. search needs)
-    (λ c. let b2 = c .before .before in let b4 = b2 .before .before in let b7 = b4 .before .before .before in let b10 = b7 .before .before .before in let b12 = b10 .before .before in let b14 = b12 .before .before in
-    expire-found _ _ _ (b14 .args .cfg) (b14 .args .v) (b14 .args .orders) (b12 .booked-at .result) (b12 .booked-at .ensures) _ _ (b10 .booked .given .1) (b7 .stamp .result) (b7 .stamp .ensures) (b4 .enum-told2 .given .1) (b14 .args .counts) _ (b2 .expire-booked .result) (b2 .expire-booked .ensures)))
+    (λ c κs. search needs)
+    (λ c. let b1 = c .before in let b3 = b1 .before .before in let b5 = b3 .before .before in let b7 = b5 .before .before in let b9 = b7 .before .before in
+    λ s n. expire-unstamped _ _ _ (b9 .args .cfg) (b9 .args .v) (b9 .args .orders) (b7 .booked-at .result) (b7 .booked-at .ensures) _ _ (b5 .booked .given .1) (b3 .stamp .result) (b3 .stamp .ensures) (b1 .match2 .keys2) (c .only2 .result) (c .only2 .ensures) s)
+    (λ c κs. search needs)
+    (λ c. search needs)
+    (λ c. let b2 = c .before .before in let b4 = b2 .before .before in let b7 = b4 .before .before .before in let b9 = b7 .before .before in let b11 = b9 .before .before in let b13 = b11 .before .before in
+    expire-found _ _ _ (b13 .args .cfg) (b13 .args .v) (b13 .args .orders) (b11 .booked-at .result) (b11 .booked-at .ensures) _ _ (b9 .booked .given .1) (b7 .stamp .result) (b7 .stamp .ensures) (b4 .enum-told2 .given .1) (b13 .args .counts) _ (b2 .expire-booked .result) (b2 .expire-booked .ensures)))

@@ -20,7 +20,7 @@ use Rattle.lists.proofs.Cases.{pick-case}
 use Rattle.lists.proofs.Exits.{entry-in}
 use Rattle.book.specs.Entries.{blankOrder, remaining, inState, isTerminal, idAbove}
 use Rattle.orders.specs.Rows.{ordersRow, ordersOf, ordersPut, ordersTaken, orderIn}
-use Rattle.state.specs.With.{withOrders, withMsgs, seqsNextExecId, gateMark2, countersVenueFills}
+use Rattle.state.specs.With.{withOrders, withMsgs, seqsNextExecId, countersVenueFills}
 use Rattle.book.specs.declared.Delivery.{Delivery}
 use Rattle.book.specs.declared.ExecKind.{ExecKind}
 use Rattle.book.specs.declared.ExecKind.the-variants as exec
@@ -52,7 +52,7 @@ use Rattle.models.specs.declared.gate.Gated.the-variants.{Fail, Done}
 use Rattle.rules.specs.Run as rules
 use Rattle.rules.specs.Report.{reportAt, reported, queueDelivery}
 use Rattle.rules.specs.Messages.{removeExpiry, await, awaitMarked}
-use Rattle.rules.specs.Matching.{matches, fillLots, gateFilled, filledBy, recordAt, fillKind, fillRecord, fillReport, fillCounted, fillEvent, fillAt, no-fill, fills, fails, fillsOf, leave, terminalAt, sweepFrom, gateMarked}
+use Rattle.rules.specs.Matching.{matches, fillLots, gateFilled, filledBy, recordAt, fillKind, fillRecord, fillReport, fillCounted, fillEvent, fillAt, no-fill, fills, fails, fillsOf, leave, terminalAt, sweepFrom}
 use Rattle.rules.proofs.Kept.{KeptAt, Kept, raised-kept, halt-kept, pick-kept, some-kept, word-kept}
 use Rattle.rules.proofs.Steps.{stamp-then, delayed-kept}
 use Rattle.reports.specs.Log.{Log, logAt, appendEvent, appendEvents, StepResult, expected, actual}
@@ -364,15 +364,6 @@ sweep-end place os ms aw q h s n w = rw h (expected-ran (logAt w n) (withSwept s
 pub sweep-over : (os : Orders) (ms : Msgs) (aw : Orders) (q place : ℕ) → 8 < os .count → (s : KernelState) (n : ℕ) (w : List ℕ)
     → actual (sweptIn s n (record { outcome = Ran; orders = os; msgs = ms; awaiting = aw })) w ≡ expected (logAt w n) (sweepFrom q place (withSwept s os ms aw))
 sweep-over os ms aw q place h s n w = rw (sweep-above (withSwept s os ms aw) h q place) (expected-ran (logAt w n) (withSwept s os ms aw))
-
--- ---- the mark
-pub mark-none : (g : GateState) (mid2 : ℕ) → mid2 ≡ 0 → g ≡ gateMarked mid2 g
-unfolding gateMarked pick
-mark-none g mid2 h = rw (eq-eqb mid2 0 h)
-
-pub mark-some : (g : GateState) (mid2 : ℕ) → (mid2 ≡ 0 → ⊥) → gateMark2 g (u64.Some mid2) ≡ gateMarked mid2 g
-unfolding gateMarked pick
-mark-some g mid2 h = rw (ne-eqb mid2 0 h)
 
 -- ---- whether a live order is terminal
 module _ (os : Orders) where

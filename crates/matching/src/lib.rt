@@ -2,6 +2,7 @@
 use book::Delivery;
 use book::ExecKind;
 use book::FillRec;
+use book::Found;
 use book::MaybeFill;
 use book::OrderState;
 use book::ReportRec;
@@ -9,7 +10,6 @@ use book::VenueOrder;
 use book::config::Config;
 use book::config::FillMode;
 use book::config::KernelTick;
-use messages::remove_expiry;
 use models::fill::fill_lots;
 use models::fill::matches;
 use models::gate;
@@ -27,7 +27,6 @@ use reports::report::report_on;
 use reports::report::stamp;
 use reports::report::status_report;
 use state::Clock;
-use state::GateState;
 use state::HaltReason;
 use state::KernelEvent;
 use state::Seqs;
@@ -40,10 +39,11 @@ ghost use Rattle.book.specs.Capacities.{ordersCapacity, deliveriesCapacity};
 ghost use Rattle.book.specs.Entries.{blankOrder, remaining};
 ghost use Rattle.orders.specs.Rows.{ordersRow};
 ghost use Rattle.state.specs.declared.KernelState.{KernelState};
-ghost use Rattle.state.specs.With.{withOrders};
+ghost use Rattle.state.specs.With.{withOrders, withMsgs};
 ghost use Rattle.rules.specs.Run.{haltAt};
 ghost use Rattle.rules.specs.Report.{reportAt};
-ghost use Rattle.rules.specs.Matching.{filledBy, recordAt, fillKind, fillEvent, fillAt, fillsOf, leave, terminalAt, sweepFrom, gateMarked};
+ghost use Rattle.rules.specs.Messages.{removeExpiry};
+ghost use Rattle.rules.specs.Matching.{filledBy, recordAt, fillKind, fillEvent, fillAt, fillsOf, leave, terminalAt, sweepFrom};
 ghost use Rattle.reports.specs.Log.{logAt, expected, actual};
 ghost use Rattle.reports.specs.Report.{withVenue};
 ghost use Rattle.reports.specs.declared.Outcome.the-variants.{Ran};
@@ -154,19 +154,18 @@ fn stopped(reason: HaltReason, venue: Venue, raised: u64) -> Filled
 }
 
 // A fill: the stamp, then the gate and the exec id, written only when both and the doubled price have passed; the counter and the event.
-fn fill_at(log: &mut [u64], raised: u64, order: VenueOrder, lots: u64, v: Venue) -> Filled
+fn fill_at(log: &mut [u64], raised: u64, order: VenueOrder, lots: u64, mut v: Venue) -> Filled
     ensures { λ r. ⌜ ((s : KernelState) → actual (filledIn s r) (now (log .exit)) ≡ expected (logAt (now (log .entry)) raised) (fillEvent order lots (withVenue s v))) ⌝ }
 {
     let before = v.seqs;
     let a = stamp(before);
     let after = a.seqs;
-    let mut u = v;
-    u.seqs = after;
+    v.seqs = after;
     let o = a.outcome;
     let Outcome::Ran = o else {
         return Filled {
             outcome: o,
-            venue: u,
+            venue: v,
             raised,
         };
     };
@@ -174,28 +173,28 @@ fn fill_at(log: &mut [u64], raised: u64, order: VenueOrder, lots: u64, v: Venue)
     let g = v.gate;
     let gated = gate::fill(g, side, lots);
     let Gated::Done(kept) = gated else {
-        return stopped(HaltReason::CounterOverflow, u, raised);
+        return stopped(HaltReason::CounterOverflow, v, raised);
     };
     let doubled = checked_mul(order.price, 2);
     let MaybeU64::Some(_) = doubled else {
-        return stopped(HaltReason::LedgerOverflow, u, raised);
+        return stopped(HaltReason::LedgerOverflow, v, raised);
     };
     let exec = checked_add(after.next_exec_id, 1);
     let MaybeU64::Some(next_exec_id) = exec else {
-        return stopped(HaltReason::CounterOverflow, u, raised);
+        return stopped(HaltReason::CounterOverflow, v, raised);
     };
-    u.gate = kept;
-    u.seqs.next_exec_id = next_exec_id;
+    v.gate = kept;
+    v.seqs.next_exec_id = next_exec_id;
     let count = checked_add(v.counters.venue_fills, 1);
     let MaybeU64::Some(venue_fills) = count else {
-        return stopped(HaltReason::CounterOverflow, u, raised);
+        return stopped(HaltReason::CounterOverflow, v, raised);
     };
-    u.counters.venue_fills = venue_fills;
+    v.counters.venue_fills = venue_fills;
     let fill = fill_record(v.clock.now_ns, before.next_exec_id, order, lots);
     let n = emit(log, raised, KernelEvent::Fill(fill));
     Filled {
         outcome: Outcome::Ran,
-        venue: u,
+        venue: v,
         raised: n,
     }
 }
@@ -293,6 +292,18 @@ fn terminal_at(orders: Orders, index: usize) -> bool
     };
     let state = order.state;
     state.is_terminal()
+}
+
+// The messages without the first expiry of the order.
+fn remove_expiry(id: u64, msgs: Msgs) -> Msgs
+    ensures { λ r. ⌜ ((s : KernelState) → withMsgs s r ≡ removeExpiry id (withMsgs s msgs)) ⌝ }
+{
+    let found = msgs.expiry(id);
+    let Found::At(index) = found else {
+        return msgs;
+    };
+    let taken = msgs.remove(index);
+    taken.list
 }
 
 // The order at a place leaves, with its expiry, to awaiting if a cancel is in flight.
@@ -396,19 +407,4 @@ pub fn any_terminal(orders: Orders) -> bool
         }
     }
     false
-}
-
-pub fn mark(gate: GateState, mid2: u64) -> GateState
-    ensures { λ r. ⌜ r ≡ gateMarked mid2 gate ⌝ }
-{
-    if mid2 == 0 {
-        return gate;
-    }
-    let venue_pos = gate.venue_pos;
-    GateState {
-        venue_pos,
-        live_buy_lots: gate.live_buy_lots,
-        live_sell_lots: gate.live_sell_lots,
-        mark2: MaybeU64::Some(mid2),
-    }
 }

@@ -7,7 +7,7 @@ use mathlib.Core.Option.{Option, none, some}
 use mathlib.Core.Path.{_≡_, refl, sym, ap, _∙_, subst}
 use native.Mathlib.Omega.{arith}
 use lib.ListN.{length}
-use borrow.Author.Tests.{lt-ltb, le-ltb, le-leb, lt-leb}
+use borrow.Author.Tests.{lt-ltb, le-ltb, le-leb, lt-leb, eq-eqb, ne-eqb}
 use Rattle.numbers.specs.Choice.{pick}
 use Rattle.numbers.specs.Words.{fits, fitting, onWord}
 use Rattle.numbers.specs.declared.MaybeU64.{MaybeU64}
@@ -17,7 +17,7 @@ use Rattle.lists.proofs.Exits.{put-full}
 use Rattle.lists.proofs.Room.{room}
 use Rattle.book.specs.Capacities.{observedCapacity}
 use Rattle.observed.specs.Rows.{observedRow}
-use Rattle.state.specs.With.{withControl, withGate, clockNowNs, clockLastObservedNs, controlPhase}
+use Rattle.state.specs.With.{withControl, withGate, gateMark2, clockNowNs, clockLastObservedNs, controlPhase}
 use Rattle.book.specs.declared.config.Config.{Config}
 use Rattle.book.specs.declared.config.KernelTick.{KernelTick}
 use Rattle.state.specs.declared.Control.{Control}
@@ -292,3 +292,12 @@ again-not-paused cfg rows s r = go (s .control .phase)
     go ObsQueued e = refl
     go AwaitDecision e = let z : _≡_ {A = ℕ} 0 1 = cc in absurd (omega arith)
     go Terminal e = refl
+
+-- ---- the mark
+pub mark-none : (g : GateState) (mid2 : ℕ) → mid2 ≡ 0 → g ≡ gateMarked mid2 g
+unfolding gateMarked pick
+mark-none g mid2 h = rw (eq-eqb mid2 0 h)
+
+pub mark-some : (g : GateState) (mid2 : ℕ) → (mid2 ≡ 0 → ⊥) → gateMark2 g (Some mid2) ≡ gateMarked mid2 g
+unfolding gateMarked pick
+mark-some g mid2 h = rw (ne-eqb mid2 0 h)

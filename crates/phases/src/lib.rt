@@ -2,7 +2,6 @@
 use book::config::Config;
 use book::config::KernelTick;
 use book::config::MaybeTick;
-use matching::mark;
 use models::latency::delayed;
 use numbers::MaybeU64;
 use numbers::words::checked_add;
@@ -10,6 +9,7 @@ use numbers::words::max;
 use reports::Outcome;
 use reports::Venue;
 use state::Control;
+use state::GateState;
 use state::HaltReason;
 use state::Phase;
 use state::Status;
@@ -21,6 +21,7 @@ ghost use Rattle.book.specs.Capacities.{observedCapacity};
 ghost use Rattle.book.specs.declared.config.Config.{Config};
 ghost use Rattle.state.specs.With.{withControl};
 ghost use Rattle.state.specs.declared.KernelState.{KernelState};
+ghost use Rattle.rules.specs.Matching.{gateMarked};
 ghost use Rattle.rules.specs.Phases.{rowAt, queueObservation, nextRow, phaseTurn};
 ghost use Rattle.rules.specs.Calls.{isPaused};
 ghost use Rattle.reports.specs.Log.{logAt, expected, actual};
@@ -124,6 +125,22 @@ pub fn next_row(cfg: Config, rows: &[u64], c: Control) -> Onward
 pub struct Opened {
     pub outcome: Outcome,
     pub venue: Venue,
+}
+
+// The gate marked with the doubled mid of a row that has one.
+fn mark(gate: GateState, mid2: u64) -> GateState
+    ensures { λ r. ⌜ r ≡ gateMarked mid2 gate ⌝ }
+{
+    if mid2 == 0 {
+        return gate;
+    }
+    let venue_pos = gate.venue_pos;
+    GateState {
+        venue_pos,
+        live_buy_lots: gate.live_buy_lots,
+        live_sell_lots: gate.live_sell_lots,
+        mark2: MaybeU64::Some(mid2),
+    }
 }
 
 // The clock rises to the row's time, and its mid marks the gate.

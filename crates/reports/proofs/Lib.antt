@@ -1,3 +1,4 @@
 pub mod Append
 pub mod Then
 pub mod ReportExits
+pub mod Expiry

@@ -1,7 +1,7 @@
--- `matching::mark` meets its contract, by the laws of `MatchingExits`. Assumes nothing.
-use Rattle.matching.proofs.MatchingExits.{mark-none, mark-some}
-use Rattle.matching.proofs.mark.Statement.{statement}
-use Rattle.matching.proofs.mark.Tie as tie
+-- `phases::mark` meets its contract, by the laws of `PhasesExits`. Assumes nothing.
+use Rattle.phases.proofs.PhasesExits.{mark-none, mark-some}
+use Rattle.phases.proofs.mark.Statement.{statement}
+use Rattle.phases.proofs.mark.Tie as tie
 
 pub mark-spec : {M : Type 1} → statement M
 mark-spec =

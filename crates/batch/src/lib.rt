@@ -92,11 +92,16 @@ pub fn run(cfg: Config, rows: &[u64], state: KernelState, log: &mut [u64], passe
     let mut left = passes;
     let mut before = 0;
     let mut n = 0;
-    let outcome = 'phases: loop {
+    // How the last step went: no turn follows one that did not run to its end.
+    let mut outcome = Outcome::Ran;
+    'phases: loop {
+        let Outcome::Ran = outcome else {
+            break;
+        };
         let job = job_of(control, rows);
         match job {
             Job::Stop => {
-                // A pause: a pass goes on from it, where one is wanted.
+                // A pause: a pass goes on from it, where one is wanted; else the batch is left at it.
                 let counts = Counts {
                     orders: orders.count,
                     msgs: msgs.count,
@@ -107,7 +112,8 @@ pub fn run(cfg: Config, rows: &[u64], state: KernelState, log: &mut [u64], passe
                 };
                 let to = after_pause(left, records, n, counts_fit(counts), control);
                 let Again::With(passed, fewer) = to else {
-                    break 'phases Outcome::Ran;
+                    outcome = Outcome::Left;
+                    continue 'phases;
                 };
                 control = passed;
                 left = fewer;
@@ -115,12 +121,16 @@ pub fn run(cfg: Config, rows: &[u64], state: KernelState, log: &mut [u64], passe
                 continue 'phases;
             }
             Job::Fail => {
-                break 'phases Outcome::Halt(HaltReason::CounterOverflow);
+                outcome = Outcome::Halt(HaltReason::CounterOverflow);
+                continue 'phases;
             }
             Job::First => {}
             Job::Row(work, index, row) => {
-                // The walk: every event up to the row's time.
+                // The walk: every event up to the row's time, while each runs to its end.
                 loop {
+                    let Outcome::Ran = outcome else {
+                        continue 'phases;
+                    };
                     let next = next_of(row.ts_ns, msgs, deliveries, observed);
                     let Next::At(class, time) = next else {
                         break;
@@ -136,16 +146,13 @@ pub fn run(cfg: Config, rows: &[u64], state: KernelState, log: &mut [u64], passe
                             let told = a.told;
                             v = told.venue;
                             n = told.raised;
+                            outcome = told.outcome;
                             let sent = told.sent;
                             let slot = slot_of(sent, deliveries.count);
                             if let Slot::At(at, delivery) = slot {
                                 deliveries.slots[at] = delivery;
                                 deliveries.count = at + 1;
                             }
-                            let o = told.outcome;
-                            let Outcome::Ran = o else {
-                                break 'phases o;
-                            };
                         }
                         Class::Delivery => {
                             let delivery = deliveries.slots[0];
@@ -160,10 +167,7 @@ pub fn run(cfg: Config, rows: &[u64], state: KernelState, log: &mut [u64], passe
                             agent = h.agent;
                             account = h.account;
                             n = h.raised;
-                            let o = h.outcome;
-                            let Outcome::Ran = o else {
-                                break 'phases o;
-                            };
+                            outcome = h.outcome;
                         }
                         Class::Observation => {
                             let entry = observed.slots[0];
@@ -186,7 +190,8 @@ pub fn run(cfg: Config, rows: &[u64], state: KernelState, log: &mut [u64], passe
                     Work::Settle => {
                         let sum = checked_add(row.bid, row.ask);
                         let MaybeU64::Some(_) = sum else {
-                            break 'phases Outcome::Halt(HaltReason::LedgerOverflow);
+                            outcome = Outcome::Halt(HaltReason::LedgerOverflow);
+                            continue 'phases;
                         };
                         n = emit(
                             log,
@@ -200,9 +205,9 @@ pub fn run(cfg: Config, rows: &[u64], state: KernelState, log: &mut [u64], passe
                     Work::Match => {
                         let open = open_row(row, v);
                         v = open.venue;
-                        let o = open.outcome;
-                        let Outcome::Ran = o else {
-                            break 'phases o;
+                        outcome = open.outcome;
+                        let Outcome::Ran = outcome else {
+                            continue 'phases;
                         };
                         let count = looks(orders.count);
                         let mut i = 0;
@@ -215,7 +220,8 @@ pub fn run(cfg: Config, rows: &[u64], state: KernelState, log: &mut [u64], passe
                                     continue;
                                 }
                                 Lots::Fail => {
-                                    break 'phases Outcome::Halt(HaltReason::CounterOverflow);
+                                    outcome = Outcome::Halt(HaltReason::CounterOverflow);
+                                    continue 'phases;
                                 }
                                 Lots::Take(_, taken) => {
                                     let at_stamp = v.seqs;
@@ -232,14 +238,13 @@ pub fn run(cfg: Config, rows: &[u64], state: KernelState, log: &mut [u64], passe
                                     n = f.raised;
                                     let stored = f.order;
                                     orders.slots[i] = stored;
-                                    let p = f.outcome;
-                                    let Outcome::Ran = p else {
-                                        break 'phases p;
+                                    outcome = f.outcome;
+                                    let Outcome::Ran = outcome else {
+                                        continue 'phases;
                                     };
-                                    let clock = v.clock;
                                     let at = deliveries.count;
                                     deliveries.slots[at] = fill_delivery(
-                                        clock,
+                                        v.clock,
                                         at_stamp,
                                         order,
                                         taken,
@@ -254,17 +259,17 @@ pub fn run(cfg: Config, rows: &[u64], state: KernelState, log: &mut [u64], passe
                             orders = w.orders;
                             msgs = w.msgs;
                             awaiting = w.awaiting;
-                            let p = w.outcome;
-                            let Outcome::Ran = p else {
-                                break 'phases p;
+                            outcome = w.outcome;
+                            let Outcome::Ran = outcome else {
+                                continue 'phases;
                             };
                         }
                         let q = observed_at(cfg, row, observed.count, v, control);
                         v = q.venue;
                         control = q.control;
-                        let p = q.outcome;
-                        let Outcome::Ran = p else {
-                            break 'phases p;
+                        outcome = q.outcome;
+                        let Outcome::Ran = outcome else {
+                            continue 'phases;
                         };
                         let at = observed.count;
                         observed.slots[at] = ObsEntry {
@@ -298,25 +303,24 @@ pub fn run(cfg: Config, rows: &[u64], state: KernelState, log: &mut [u64], passe
             agent = e.agent;
             account = e.account;
             n = e.raised;
-            let o = e.outcome;
-            break 'phases o;
+            outcome = e.outcome;
+            continue 'phases;
         };
         control = at;
-    };
+    }
     let end = close(log, n, outcome, control, v);
-    let s = state_of(
-        end,
-        orders,
-        msgs,
-        awaiting,
-        deliveries,
-        observed,
-        agent,
-        account,
-    );
     Advanced {
         answer,
-        state: s,
+        state: state_of(
+            end,
+            orders,
+            msgs,
+            awaiting,
+            deliveries,
+            observed,
+            agent,
+            account,
+        ),
         events: end.raised,
         last: saturating_sub(end.raised, before),
     }

@@ -1,10 +1,10 @@
 -- The steps of `batch::run` over the state in parts: lists that change in place, and one law for each step that a path alone does not answer. Assumes nothing.
-use Prim.Native.Nat.{ℕ, zero, suc, _+_, _-_, _*_, _≤_, _<_}
+use Prim.Native.Nat.{ℕ, zero, suc, _+_, _-_, _*_, _≤_, _<_, max}
 use mathlib.Core.Bool.{false, _&&_}
 use mathlib.Core.List.{List, [], _∷_}
 use mathlib.Core.Option.{Option, some}
-use mathlib.Core.Logic.{⊎-elim}
-use mathlib.Core.Path.{_≡_, refl, sym, ap, _∙_}
+use mathlib.Core.Logic.{⊎-elim, inl, inr}
+use mathlib.Core.Path.{_≡_, refl, sym, ap, _∙_, subst}
 use native.Mathlib.Omega.{arith}
 use lib.Dec.{ltb, leb}
 use lib.ListN.{length, getD, set}
@@ -21,7 +21,7 @@ use Rattle.book.specs.Entries.{blankOrder, blankDelivery, blankObs, remaining}
 use Rattle.orders.specs.Rows.{ordersRow, ordersOf}
 use Rattle.deliveries.specs.Rows.{deliveriesRow, deliveriesOf}
 use Rattle.observed.specs.Rows.{observedRow, observedOf}
-use Rattle.state.specs.With.{withControl, controlPhase, controlStatus, countersHalts}
+use Rattle.state.specs.With.{withControl, withClock, clockNowNs, controlPhase, controlStatus, countersHalts}
 use Rattle.book.specs.declared.Delivery.{Delivery}
 use Rattle.book.specs.declared.ObsEntry.{ObsEntry}
 use Rattle.book.specs.declared.VenueOrder.{VenueOrder}
@@ -46,7 +46,7 @@ use Rattle.rules.proofs.Cases.{word-case}
 use Rattle.rules.specs.Messages.{applyNextMsg}
 use Rattle.rules.specs.Matching.{fills, no-fill, fails, fillsOf, fillAt, matchAt, matchFrom, sweepFrom, sweep}
 use Rattle.rules.specs.Delivery.{deliver, deliverNext}
-use Rattle.rules.specs.Events.{popObservation, runEvents}
+use Rattle.rules.specs.Events.{nextOf, handle, weight, popObservation, runEvents}
 use Rattle.rules.specs.Phases.{queueObservation, matchPhase, phaseTurn, onPhase, turnsIn, turns, phases}
 use Rattle.reports.specs.Log.{Log, logAt, appendEvent, StepResult, expected, actual}
 use Rattle.reports.specs.Report.{withVenue, sentTo}
@@ -64,9 +64,12 @@ use Rattle.reports.proofs.Then.{Stopped, state-is, expected-halt, then-then, th
 use Rattle.entry.specs.Entry.{againAs}
 use Rattle.entry.specs.declared.Again.{Again}
 use Rattle.entry.specs.declared.Again.the-variants.{Stop, With}
-use Rattle.walk.specs.Events.{withLooked, lookedIn, seen}
+use Rattle.walk.specs.Events.{ruleClass, ruleNext, withLooked, lookedIn, seen}
+use Rattle.walk.specs.declared.Class.{Class}
+use Rattle.walk.specs.declared.Next.{Next}
+use Rattle.walk.specs.declared.Next.the-variants.{At}
 use Rattle.walk.specs.declared.Looked.{Looked}
-use Rattle.walk.proofs.EventsExits.{seen-pops}
+use Rattle.walk.proofs.EventsExits.{seen-pops, walk-goes-then, walk-stops-then, walk-falls}
 use Rattle.messages.specs.Acts.{actedIn}
 use Rattle.messages.specs.declared.Acted.{Acted}
 use Rattle.deeds.specs.Deeds.{withLists}
@@ -368,18 +371,107 @@ pub sweep-none : (l : Log) (s : KernelState) (f : KernelState → rules.Run) →
 unfolding rules.andThen
 sweep-none l s f h = rw (none-terminal s h)
 
+-- ---- a step that ran, or one that stopped
+pub stopped-not : {A : Type 0} (o : Outcome) → Stopped o → o ≡ Ran → A
+stopped-not o r e = absurd (⊎-elim (λ z. omega arith) (λ y. ⊎-elim (λ z. omega arith) (λ z. omega arith) y) (subst Stopped e r))
+
+-- what it gives: what comes behind it, or the stop itself
+unfoldable pub stepsOn : Outcome → Log → KernelState → (KernelState → rules.Run) → StepResult
+stepsOn Ran l s f = expected l (f s)
+stepsOn Left l s f = record { outcome = Left; state = s; log = l }
+stepsOn (Halt h) l s f = record { outcome = Halt h; state = s; log = l }
+stepsOn Ended l s f = record { outcome = Ended; state = s; log = l }
+
+pub steps-ran : (o : Outcome) → o ≡ Ran → (l : Log) (s : KernelState) (f : KernelState → rules.Run) → expected l (f s) ≡ stepsOn o l s f
+unfolding stepsOn
+steps-ran o h l s f = rw h
+
+pub steps-stop : (o : Outcome) → Stopped o → (l : Log) (s : KernelState) (f : KernelState → rules.Run) → record { outcome = o; state = s; log = l } ≡ stepsOn o l s f
+unfolding stepsOn
+steps-stop Ran r l s f = absurd (⊎-elim (λ z. omega arith) (λ y. ⊎-elim (λ z. omega arith) (λ z. omega arith) y) r)
+steps-stop Left r l s f = refl
+steps-stop (Halt h) r l s f = refl
+steps-stop Ended r l s f = refl
+
+steps-by : (o : Outcome) (l : Log) (s : KernelState) (f : KernelState → rules.Run) {x : StepResult} → (o ≡ Ran → expected l (f s) ≡ x) → (Stopped o → record { outcome = o; state = s; log = l } ≡ x) → stepsOn o l s f ≡ x
+unfolding stepsOn
+steps-by Ran l s f a b = a refl
+steps-by Left l s f a b = b (inl refl)
+steps-by (Halt h) l s f a b = b (inr (inl refl))
+steps-by Ended l s f a b = b (inr (inr refl))
+
+-- how much is left to do: nothing behind a stop
+unfoldable pub fuel : Outcome → ℕ → ℕ
+fuel Ran k = suc k
+fuel Left k = 0
+fuel (Halt h) k = 0
+fuel Ended k = 0
+
+pub fuel-falls : (o p : Outcome) (x y : ℕ) → p ≡ Ran → (o ≡ Ran → x < y) → fuel o x < fuel p y
+unfolding fuel
+fuel-falls Ran p x y h f = rw h (omega (arith, f refl))
+fuel-falls Left p x y h f = rw h (omega arith)
+fuel-falls (Halt z) p x y h f = rw h (omega arith)
+fuel-falls Ended p x y h f = rw h (omega arith)
+
+pub fuel-stops : (o p : Outcome) (x y : ℕ) → p ≡ Ran → Stopped o → fuel o x < fuel p y
+fuel-stops o p x y h r = fuel-falls o p x y h (stopped-not o r)
+
+-- a turn of the walk
+module _ (cfg : Config) (until : ℕ) (s : KernelState) (x : Next) (e : ruleNext x ≡ nextOf until s) (w : List ℕ) (n : ℕ) (k : Class) (t : ℕ) (h : x ≡ At k t) (j : Class) (now : ℕ) (hj : k ≡ j) (m : now ≡ max t (s .clock .«now_ns»))
+    (a : Step) (w1 : List ℕ) (g : actual a w1 ≡ expected (logAt w n) (handle cfg (ruleClass j) (withClock s (clockNowNs (s .clock) now)))) where
+  pub walk-steps : (f : KernelState → rules.Run) → stepsOn (a .outcome) (logAt w1 (a .raised)) (a .state) (λ u. rules.andThen (runEvents cfg until u) f) ≡ expected (logAt w n) (rules.andThen (runEvents cfg until s) f)
+  walk-steps f =
+      steps-by (a .outcome) (logAt w1 (a .raised)) (a .state) (λ u. rules.andThen (runEvents cfg until u) f)
+      (λ o. walk-goes-then cfg until s x e w n k t h j now hj m a w1 g o f)
+      (λ o. walk-stops-then cfg until s x e w n k t h j now hj m a w1 g o f)
+
+  pub walk-spends : (p : Outcome) → p ≡ Ran → fuel (a .outcome) (weight (a .state)) < fuel p (weight s)
+  walk-spends p q = fuel-falls (a .outcome) p (weight (a .state)) (weight s) q (walk-falls cfg until s x e w n k t h j now hj m a w1 g)
+
 -- ---- the end of a call
-module _ (cfg : Config) (rows : List ℕ) (records left b : ℕ) (l : Log) (s : KernelState) {o : Outcome} {u : KernelState} {m : Log} (e : record { outcome = o; state = u; log = m } ≡ expected l (phases cfg rows s)) where
-  -- it does not wait for a decision
-  pub ends-still : isPaused (u .control .phase) ≡ false → finalOf b (record { outcome = o; state = u; log = m }) ≡ afterCall cfg rows records left b (expected l (phases cfg rows s))
-  ends-still h = sym (after-still cfg rows records left b (record { outcome = o; state = u; log = m }) h) ∙ ap (afterCall cfg rows records left b) e
+-- what the batch leaves: on from a turn that ran, or the end that it came to
+unfoldable pub leavesOn : Outcome → Config → List ℕ → ℕ → ℕ → ℕ → Log → KernelState → Final
+leavesOn Ran cfg rows records left b l s = afterCall cfg rows records left b (expected l (phases cfg rows s))
+leavesOn Left cfg rows records left b l s = finalOf b (record { outcome = Left; state = s; log = l })
+leavesOn (Halt h) cfg rows records left b l s = finalOf b (record { outcome = Halt h; state = s; log = l })
+leavesOn Ended cfg rows records left b l s = finalOf b (record { outcome = Ended; state = s; log = l })
 
-  pub ends-halt : (h : HaltReason) → o ≡ Halt h → finalOf b (record { outcome = o; state = u; log = m }) ≡ afterCall cfg rows records left b (expected l (phases cfg rows s))
-  ends-halt h q = sym (after-halt cfg rows records left b (record { outcome = o; state = u; log = m }) h q) ∙ ap (afterCall cfg rows records left b) e
+pub leaves-ran : (o : Outcome) → o ≡ Ran → (cfg : Config) (rows : List ℕ) (records left b : ℕ) (l : Log) (s : KernelState) → leavesOn o cfg rows records left b l s ≡ afterCall cfg rows records left b (expected l (phases cfg rows s))
+unfolding leavesOn
+leaves-ran o h cfg rows records left b l s = rw h
 
-  -- no pass follows
-  pub ends-last : o ≡ Ran → againAs records left (m .count) u ≡ Stop → finalOf b (record { outcome = o; state = u; log = m }) ≡ afterCall cfg rows records left b (expected l (phases cfg rows s))
-  ends-last q h = sym (after-last cfg rows records left b (record { outcome = o; state = u; log = m }) q h) ∙ ap (afterCall cfg rows records left b) e
+pub leaves-stop : (o : Outcome) → Stopped o → (cfg : Config) (rows : List ℕ) (records left b : ℕ) (l : Log) (s : KernelState) → leavesOn o cfg rows records left b l s ≡ finalOf b (record { outcome = o; state = s; log = l })
+unfolding leavesOn
+leaves-stop Ran r cfg rows records left b l s = absurd (⊎-elim (λ z. omega arith) (λ y. ⊎-elim (λ z. omega arith) (λ z. omega arith) y) r)
+leaves-stop Left r cfg rows records left b l s = refl
+leaves-stop (Halt h) r cfg rows records left b l s = refl
+leaves-stop Ended r cfg rows records left b l s = refl
+
+module _ (cfg : Config) (rows : List ℕ) (records left b : ℕ) (l : Log) (s : KernelState) (p : Outcome) (q : p ≡ Ran) where
+  -- another turn follows
+  pub goes-on : (o : Outcome) → o ≡ Ran → (fewer c : ℕ) (m : Log) (u : KernelState) → afterCall cfg rows records fewer c (expected m (phases cfg rows u)) ≡ afterCall cfg rows records left b (expected l (phases cfg rows s))
+      → leavesOn o cfg rows records fewer c m u ≡ leavesOn p cfg rows records left b l s
+  goes-on o r fewer c m u e = leaves-ran o r cfg rows records fewer c m u ∙ e ∙ sym (leaves-ran p q cfg rows records left b l s)
+
+  module _ {o : Outcome} {u : KernelState} {m : Log} (e : record { outcome = o; state = u; log = m } ≡ expected l (phases cfg rows s)) where
+    over : afterCall cfg rows records left b (record { outcome = o; state = u; log = m }) ≡ leavesOn p cfg rows records left b l s
+    over = ap (afterCall cfg rows records left b) e ∙ sym (leaves-ran p q cfg rows records left b l s)
+
+    -- it does not wait for a decision
+    pub ends-still : Stopped o → isPaused (u .control .phase) ≡ false → leavesOn o cfg rows records left b m u ≡ leavesOn p cfg rows records left b l s
+    ends-still r h = leaves-stop o r cfg rows records left b m u ∙ sym (after-still cfg rows records left b (record { outcome = o; state = u; log = m }) h) ∙ over
+
+    pub ends-halt : Stopped o → (h : HaltReason) → o ≡ Halt h → leavesOn o cfg rows records left b m u ≡ leavesOn p cfg rows records left b l s
+    ends-halt r h g = leaves-stop o r cfg rows records left b m u ∙ sym (after-halt cfg rows records left b (record { outcome = o; state = u; log = m }) h g) ∙ over
+
+    left-is : o ≡ Ran → finalOf b (record { outcome = Left; state = u; log = m }) ≡ finalOf b (record { outcome = o; state = u; log = m })
+    unfolding finalOf
+    left-is g = rw g
+
+    -- no pass follows
+    pub ends-last : o ≡ Ran → againAs records left (m .count) u ≡ Stop → leavesOn Left cfg rows records left b m u ≡ leavesOn p cfg rows records left b l s
+    ends-last g h = leaves-stop Left (inl refl) cfg rows records left b m u ∙ left-is g ∙ sym (after-last cfg rows records left b (record { outcome = o; state = u; log = m }) g h) ∙ over
 
 -- a pass follows
 pub passes-on : (cfg : Config) (rows : List ℕ) (records left b : ℕ) (l : Log) (s : KernelState) → phaseTurn cfg rows s ≡ rules.last (rules.ranTo s) → (next : Control) (fewer : ℕ) → againAs records left (l .count) s ≡ With next fewer
@@ -397,7 +489,3 @@ looks-on cfg rows records left b l m s u e t =
 module _ {log log₁ : List ℕ} {c c₁ : Control} {v v₁ : Venue} {o o₁ : Orders} {m m₁ : Msgs} {aw aw₁ : Orders} {d d₁ : Deliveries} {b b₁ : Observed} {g g₁ : AgentView} {a a₁ : AgentAccount} {n n₁ : ℕ} where
   pub met-in : {A : Type 0} (f : List ℕ → ℕ → KernelState → A) → log₁ ≡ log → c₁ ≡ c → v₁ ≡ v → o₁ ≡ o → m₁ ≡ m → aw₁ ≡ aw → d₁ ≡ d → b₁ ≡ b → g₁ ≡ g → a₁ ≡ a → n₁ ≡ n → f log₁ n₁ (stateOf c₁ v₁ o₁ m₁ aw₁ d₁ b₁ g₁ a₁) ≡ f log n (stateOf c v o m aw d b g a)
   met-in f e0 e1 e2 e3 e4 e5 e6 e7 e8 e9 e10 = rw (e0, e1, e2, e3, e4, e5, e6, e7, e8, e9, e10)
-
-  pub ends-in : (k : ℕ) {x x₁ : Outcome} {t : Final} → log₁ ≡ log → c₁ ≡ c → v₁ ≡ v → o₁ ≡ o → m₁ ≡ m → aw₁ ≡ aw → d₁ ≡ d → b₁ ≡ b → g₁ ≡ g → a₁ ≡ a → n₁ ≡ n → x₁ ≡ x → finalOf k (record { outcome = x; state = stateOf c v o m aw d b g a; log = logAt log n }) ≡ t
-      → finalOf k (record { outcome = x₁; state = stateOf c₁ v₁ o₁ m₁ aw₁ d₁ b₁ g₁ a₁; log = logAt log₁ n₁ }) ≡ t
-  ends-in k e0 e1 e2 e3 e4 e5 e6 e7 e8 e9 e10 e h = rw (e0, e1, e2, e3, e4, e5, e6, e7, e8, e9, e10, e) h

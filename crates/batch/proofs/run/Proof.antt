@@ -34,7 +34,7 @@ use Rattle.reports.proofs.Then.{Stopped, expected-halt}
 use Rattle.entry.specs.Entry.{testedAs}
 use Rattle.entry.specs.declared.Answer.{Answer}
 use Rattle.entry.proofs.EntryExits.{tested-tells}
-use Rattle.turns.specs.Turns.{afterCall, ranAs}
+use Rattle.turns.specs.Turns.{Final, afterCall, ranAs}
 use Rattle.turns.proofs.Batch.{run-is, run-refused}
 use Rattle.walk.specs.declared.Class.the-variants.{Venue, Delivery, Observation}
 use Rattle.walk.proofs.EventsExits.{due-delivery, due-observation, next-is, walk-done-then, walk-stops-then}
@@ -100,6 +100,12 @@ at-loop c = stateOf (c .loop .control) (c .loop .v) (c .loop .orders) (c .loop .
 -- the state in the match pass
 abbrev at-pass : tie.At-loop4 Inv-loop2 μ-loop2 Inv-loop3 μ-loop3 Inv-loop μ-loop Inv-loop4 μ-loop4 Inv-phases μ-phases → KernelState
 at-pass c = let b13 = c .before .before .before .before .before .before .before .before .before .before .before .before .before in stateOf (b13 .loop .control) (c .loop4 .v) (c .loop4 .orders) (b13 .loop .msgs) (b13 .loop .awaiting) (c .loop4 .deliveries) (b13 .loop .observed) (b13 .loop .agent) (b13 .loop .account)
+
+-- what the whole batch leaves
+abbrev whole : (c : tie.After-account Inv-loop2 μ-loop2 Inv-loop3 μ-loop3 Inv-loop μ-loop Inv-loop4 μ-loop4 Inv-phases μ-phases) →
+    Final
+whole c =
+    let b7 = c .before .before .before .before .before .before .before in let b15 = b7 .before .before .before .before .before .before .before .before in afterCall (b15 .args .cfg) (now (b15 .args .rows)) (length (now (b15 .args .log)) / 12) (b15 .args .passes) 0 (expected (logAt (now (b15 .args .log)) 0) (phases (b15 .args .cfg) (now (b15 .args .rows)) (stateOf (b15 .args .state .control) (b7 .venue-of .result) (b15 .args .state .orders) (b15 .args .state .msgs) (b15 .args .state .awaiting) (b15 .args .state .deliveries) (b15 .args .state .observed) (b15 .args .state .agent) (b15 .args .state .account))))
 
 -- the turn works on a row
 turn : (c : tie.After-job Inv-loop2 μ-loop2 Inv-loop3 μ-loop3 Inv-loop μ-loop Inv-loop4 μ-loop4 Inv-phases μ-phases) →
@@ -236,13 +242,19 @@ joined-turn c =
 
 -- the call is over, and waits for no decision
 ends-at : (c : tie.After-enum-told3 Inv-loop2 μ-loop2 Inv-loop3 μ-loop3 Inv-loop μ-loop Inv-loop4 μ-loop4 Inv-phases μ-phases) →
-    let b2 = c .before .before in let b18 = b2 .before .before .before .before .before .before .before .before .before .before .before .before .before .before .before .before in (o : Outcome) (u : KernelState) (m : Log) → record { outcome = o; state = u; log = m } ≡ expected (logAt (b2 .phases .log) (b2 .phases .n)) (phases (b18 .args .cfg) (now (b18 .args .rows)) (at-phases b2)) → Stopped o → isPaused (u .control .phase) ≡ false → leavesOn o (b18 .args .cfg) (now (b18 .args .rows)) (length (now (b18 .args .log)) / 12) (b2 .phases .left) (b2 .phases .before) m u ≡ leavesOn (b2 .phases .outcome) (b18 .args .cfg) (now (b18 .args .rows)) (length (now (b18 .args .log)) / 12) (b2 .phases .left) (b2 .phases .before) (logAt (b2 .phases .log) (b2 .phases .n)) (at-phases b2)
+    let b2 = c .before .before in let b3 = b2 .before in let b18 = b3 .before .before .before .before .before .before .before .before .before .before .before .before .before .before .before in (o : Outcome) (u : KernelState) (m : Log) → record { outcome = o; state = u; log = m } ≡ expected (logAt (b2 .phases .log) (b2 .phases .n)) (phases (b18 .args .cfg) (now (b18 .args .rows)) (at-phases b2)) → Stopped o → isPaused (u .control .phase) ≡ false → leavesOn o (b18 .args .cfg) (now (b18 .args .rows)) (length (now (b18 .args .log)) / 12) (b2 .phases .left) (b2 .phases .before) m u ≡ whole b3
 ends-at c =
-    let b2 = c .before .before in let b18 = b2 .before .before .before .before .before .before .before .before .before .before .before .before .before .before .before .before in λ o u m e r h. ends-still (b18 .args .cfg) (now (b18 .args .rows)) (length (now (b18 .args .log)) / 12) (b2 .phases .left) (b2 .phases .before) (logAt (b2 .phases .log) (b2 .phases .n)) (at-phases b2) (b2 .phases .outcome) (c .enum-told3 .given .1) e r h
+    let b2 = c .before .before in let b18 = b2 .before .before .before .before .before .before .before .before .before .before .before .before .before .before .before .before in λ o u m e r h. ends-still (b18 .args .cfg) (now (b18 .args .rows)) (length (now (b18 .args .log)) / 12) (b2 .phases .left) (b2 .phases .before) (logAt (b2 .phases .log) (b2 .phases .n)) (at-phases b2) (b2 .phases .outcome) (c .enum-told3 .given .1) e r h ∙ b2 .phases .inv .0
+
+-- another turn follows
+turns-on : (c : tie.After-enum-told3 Inv-loop2 μ-loop2 Inv-loop3 μ-loop3 Inv-loop μ-loop Inv-loop4 μ-loop4 Inv-phases μ-phases) →
+    let b2 = c .before .before in let b3 = b2 .before in let b18 = b3 .before .before .before .before .before .before .before .before .before .before .before .before .before .before .before in (o : Outcome) → o ≡ Ran → (fewer b : ℕ) (m : Log) (u : KernelState) → afterCall (b18 .args .cfg) (now (b18 .args .rows)) (length (now (b18 .args .log)) / 12) fewer b (expected m (phases (b18 .args .cfg) (now (b18 .args .rows)) u)) ≡ afterCall (b18 .args .cfg) (now (b18 .args .rows)) (length (now (b18 .args .log)) / 12) (b2 .phases .left) (b2 .phases .before) (expected (logAt (b2 .phases .log) (b2 .phases .n)) (phases (b18 .args .cfg) (now (b18 .args .rows)) (at-phases b2))) → leavesOn o (b18 .args .cfg) (now (b18 .args .rows)) (length (now (b18 .args .log)) / 12) fewer b m u ≡ whole b3
+turns-on c =
+    let b2 = c .before .before in let b18 = b2 .before .before .before .before .before .before .before .before .before .before .before .before .before .before .before .before in λ o r fewer b m u e. goes-on (b18 .args .cfg) (now (b18 .args .rows)) (length (now (b18 .args .log)) / 12) (b2 .phases .left) (b2 .phases .before) (logAt (b2 .phases .log) (b2 .phases .n)) (at-phases b2) (b2 .phases .outcome) (c .enum-told3 .given .1) o r fewer b m u e ∙ b2 .phases .inv .0
 
 -- a match stops
 match-out : (c : tie.After-enum-told17 Inv-loop2 μ-loop2 Inv-loop3 μ-loop3 Inv-loop μ-loop Inv-loop4 μ-loop4 Inv-phases μ-phases) →
-    let b9 = c .before .before .before .before .before .before .before .before .before in let b14 = b9 .before .before .before .before .before in let b30 = b14 .before .before .before .before .before .before .before .before .before .before .before .before .before .before .before .before in (o : Outcome) (u : KernelState) (m : Log) → record { outcome = o; state = u; log = m } ≡ expected (logAt (b14 .phases .log) (b14 .phases .n)) (matchPhase (b30 .args .cfg) (b9 .job .given .0 .1 .0) (b9 .job .given .0 .1 .1 .0) (at-phases b14)) → Stopped o → isPaused (u .control .phase) ≡ false → leavesOn o (b30 .args .cfg) (now (b30 .args .rows)) (length (now (b30 .args .log)) / 12) (b14 .phases .left) (b14 .phases .before) m u ≡ leavesOn (b14 .phases .outcome) (b30 .args .cfg) (now (b30 .args .rows)) (length (now (b30 .args .log)) / 12) (b14 .phases .left) (b14 .phases .before) (logAt (b14 .phases .log) (b14 .phases .n)) (at-phases b14)
+    let b9 = c .before .before .before .before .before .before .before .before .before in let b14 = b9 .before .before .before .before .before in let b15 = b14 .before in let b30 = b15 .before .before .before .before .before .before .before .before .before .before .before .before .before .before .before in (o : Outcome) (u : KernelState) (m : Log) → record { outcome = o; state = u; log = m } ≡ expected (logAt (b14 .phases .log) (b14 .phases .n)) (matchPhase (b30 .args .cfg) (b9 .job .given .0 .1 .0) (b9 .job .given .0 .1 .1 .0) (at-phases b14)) → Stopped o → isPaused (u .control .phase) ≡ false → leavesOn o (b30 .args .cfg) (now (b30 .args .rows)) (length (now (b30 .args .log)) / 12) (b14 .phases .left) (b14 .phases .before) m u ≡ whole b15
 match-out c =
     let b9 = c .before .before .before .before .before .before .before .before .before in let b12 = b9 .before .before .before in let b14 = b12 .before .before in let b30 = b14 .before .before .before .before .before .before .before .before .before .before .before .before .before .before .before .before in λ o u m e r h. ends-at b12 o u m (phases-left (b30 .args .cfg) (now (b30 .args .rows)) (at-phases b14) (matchPhase (b30 .args .cfg) (b9 .job .given .0 .1 .0) (b9 .job .given .0 .1 .1 .0) (at-phases b14)) (turn-match c) (logAt (b14 .phases .log) (b14 .phases .n)) e r) r h
 
@@ -276,7 +288,7 @@ phases-less-2 c =
 
 phases-again-2 : tie.Need-phases-again-2 Inv-loop2 μ-loop2 Inv-loop3 μ-loop3 Inv-loop μ-loop Inv-loop4 μ-loop4 Inv-phases μ-phases
 phases-again-2 c =
-    let b1 = c .before in let b3 = b1 .before .before in let b4 = b3 .before in let b5 = b4 .before in let b7 = b5 .before .before in let b8 = b7 .before in let b10 = b8 .before .before in let b26 = b10 .before .before .before .before .before .before .before .before .before .before .before .before .before .before .before .before in (goes-on (b26 .args .cfg) (now (b26 .args .rows)) (length (now (b26 .args .log)) / 12) (b10 .phases .left) (b10 .phases .before) (logAt (b10 .phases .log) (b10 .phases .n)) (at-phases b10) (b10 .phases .outcome) (b8 .enum-told3 .given .1) (b10 .phases .outcome) (b8 .enum-told3 .given .1) _ _ _ _ (passes-on (b26 .args .cfg) (now (b26 .args .rows)) (length (now (b26 .args .log)) / 12) (b10 .phases .left) (b10 .phases .before) (logAt (b10 .phases .log) (b10 .phases .n)) (at-phases b10) (turn-of (b26 .args .cfg) (now (b26 .args .rows)) (at-phases b10) (b7 .job-of .result) (b7 .job-of .ensures (b26 .args .cfg) (at-phases b10)) (b5 .enum-told4 .given .1)) _ _ (sym (b3 .after-pause .ensures (at-phases b10) (b4 .counts-fit2 .ensures (at-phases b10) refl)) ∙ b1 .to .given .1)) ∙ b10 .phases .inv .0, b10 .phases .inv .1, b10 .phases .inv .2)
+    let b1 = c .before in let b3 = b1 .before .before in let b4 = b3 .before in let b5 = b4 .before in let b7 = b5 .before .before in let b8 = b7 .before in let b10 = b8 .before .before in let b26 = b10 .before .before .before .before .before .before .before .before .before .before .before .before .before .before .before .before in (turns-on b8 (b10 .phases .outcome) (b8 .enum-told3 .given .1) _ _ _ _ (passes-on (b26 .args .cfg) (now (b26 .args .rows)) (length (now (b26 .args .log)) / 12) (b10 .phases .left) (b10 .phases .before) (logAt (b10 .phases .log) (b10 .phases .n)) (at-phases b10) (turn-of (b26 .args .cfg) (now (b26 .args .rows)) (at-phases b10) (b7 .job-of .result) (b7 .job-of .ensures (b26 .args .cfg) (at-phases b10)) (b5 .enum-told4 .given .1)) _ _ (sym (b3 .after-pause .ensures (at-phases b10) (b4 .counts-fit2 .ensures (at-phases b10) refl)) ∙ b1 .to .given .1)), b10 .phases .inv .1, b10 .phases .inv .2)
 
 -- no such row
 phases-less-3 : tie.Need-phases-less-3 Inv-loop2 μ-loop2 Inv-loop3 μ-loop3 Inv-loop μ-loop Inv-loop4 μ-loop4 Inv-phases μ-phases
@@ -294,7 +306,7 @@ phases-less-4 c =
 
 phases-again-4 : tie.Need-phases-again-4 Inv-loop2 μ-loop2 Inv-loop3 μ-loop3 Inv-loop μ-loop Inv-loop4 μ-loop4 Inv-phases μ-phases
 phases-again-4 c =
-    let b1 = c .before in let b3 = b1 .before .before in let b6 = b3 .before .before .before in let b8 = b6 .before .before in let b24 = b8 .before .before .before .before .before .before .before .before .before .before .before .before .before .before .before .before in (ends-at b6 (b1 .loop .outcome) (at-loop b1) (logAt (b1 .loop .log) (b1 .loop .n)) (walk-out (logAt (b8 .phases .log) (b8 .phases .n)) (b24 .args .cfg) (now (b24 .args .rows)) (b3 .job .given .0 .0) (b3 .job .given .0 .1 .0) (b3 .job .given .0 .1 .1 .0) (at-phases b8) (turn b3) (steps-stop (b1 .loop .outcome) (c .match5 .keys2) (logAt (b1 .loop .log) (b1 .loop .n)) (at-loop b1) (λ u. andThen (runEvents (b24 .args .cfg) (b3 .job .given .0 .1 .1 .0 .«ts_ns») u) (behind (b3 .job .given .0 .0) (b24 .args .cfg) (now (b24 .args .rows)) (b3 .job .given .0 .1 .0) (b3 .job .given .0 .1 .1 .0))) ∙ b1 .loop .inv .0 (behind (b3 .job .given .0 .0) (b24 .args .cfg) (now (b24 .args .rows)) (b3 .job .given .0 .1 .0) (b3 .job .given .0 .1 .1 .0))) (c .match5 .keys2)) (c .match5 .keys2) (waits-not b1) ∙ b8 .phases .inv .0, b1 .loop .inv .2 ∙ b8 .phases .inv .1, λ e. (b1 .loop .inv .3, b1 .loop .inv .4))
+    let b1 = c .before in let b3 = b1 .before .before in let b6 = b3 .before .before .before in let b8 = b6 .before .before in let b24 = b8 .before .before .before .before .before .before .before .before .before .before .before .before .before .before .before .before in (ends-at b6 (b1 .loop .outcome) (at-loop b1) (logAt (b1 .loop .log) (b1 .loop .n)) (walk-out (logAt (b8 .phases .log) (b8 .phases .n)) (b24 .args .cfg) (now (b24 .args .rows)) (b3 .job .given .0 .0) (b3 .job .given .0 .1 .0) (b3 .job .given .0 .1 .1 .0) (at-phases b8) (turn b3) (steps-stop (b1 .loop .outcome) (c .match5 .keys2) (logAt (b1 .loop .log) (b1 .loop .n)) (at-loop b1) (λ u. andThen (runEvents (b24 .args .cfg) (b3 .job .given .0 .1 .1 .0 .«ts_ns») u) (behind (b3 .job .given .0 .0) (b24 .args .cfg) (now (b24 .args .rows)) (b3 .job .given .0 .1 .0) (b3 .job .given .0 .1 .1 .0))) ∙ b1 .loop .inv .0 (behind (b3 .job .given .0 .0) (b24 .args .cfg) (now (b24 .args .rows)) (b3 .job .given .0 .1 .0) (b3 .job .given .0 .1 .1 .0))) (c .match5 .keys2)) (c .match5 .keys2) (waits-not b1), b1 .loop .inv .2 ∙ b8 .phases .inv .1, λ e. (b1 .loop .inv .3, b1 .loop .inv .4))
 
 -- a delivery: the walk goes on, or stops
 loop-less-3 : tie.Need-loop-less-3 Inv-loop2 μ-loop2 Inv-loop3 μ-loop3 Inv-loop μ-loop Inv-loop4 μ-loop4 Inv-phases μ-phases
@@ -312,7 +324,7 @@ phases-less-5 c =
 
 phases-again-5 : tie.Need-phases-again-5 Inv-loop2 μ-loop2 Inv-loop3 μ-loop3 Inv-loop μ-loop Inv-loop4 μ-loop4 Inv-phases μ-phases
 phases-again-5 c =
-    let b4 = c .before .before .before .before in let b6 = b4 .before .before in let b7 = b6 .before in let b8 = b7 .before in let b10 = b8 .before .before in let b13 = b10 .before .before .before in let b15 = b13 .before .before in let b17 = b15 .before .before in let b18 = b17 .before in let b20 = b18 .before .before in let b22 = b20 .before .before in let b25 = b22 .before .before .before in let b27 = b25 .before .before in let b43 = b27 .before .before .before .before .before .before .before .before .before .before .before .before .before .before .before .before in (goes-on (b43 .args .cfg) (now (b43 .args .rows)) (length (now (b43 .args .log)) / 12) (b27 .phases .left) (b27 .phases .before) (logAt (b27 .phases .log) (b27 .phases .n)) (at-phases b27) (b27 .phases .outcome) (b25 .enum-told3 .given .1) (b20 .loop .outcome) (b18 .enum-told8 .given .1) (b27 .phases .left) (b27 .phases .before) _ (stateOf (b4 .look .result .control) (clocked (b13 .max .result) (b20 .loop .v)) (b20 .loop .orders) (b20 .loop .msgs) (b20 .loop .awaiting) (b20 .loop .deliveries) (record { slots = set (b8 .loop3 .observed .slots) (b20 .loop .observed .count - 1) (b6 .blank2 .result); count = b20 .loop .observed .count - 1 }) (b4 .look .result .agent) (b20 .loop .account)) (looks-on (b43 .args .cfg) (now (b43 .args .rows)) (length (now (b43 .args .log)) / 12) (b27 .phases .left) (b27 .phases .before) (logAt (b27 .phases .log) (b27 .phases .n)) _ (at-phases b27) (stateOf (b4 .look .result .control) (clocked (b13 .max .result) (b20 .loop .v)) (b20 .loop .orders) (b20 .loop .msgs) (b20 .loop .awaiting) (b20 .loop .deliveries) (record { slots = set (b8 .loop3 .observed .slots) (b20 .loop .observed .count - 1) (b6 .blank2 .result); count = b20 .loop .observed .count - 1 }) (b4 .look .result .agent) (b20 .loop .account)) (walk-out (logAt (b27 .phases .log) (b27 .phases .n)) (b43 .args .cfg) (now (b43 .args .rows)) (b22 .job .given .0 .0) (b22 .job .given .0 .1 .0) (b22 .job .given .0 .1 .1 .0) (at-phases b27) (turn b22) (walk-stops-then (b43 .args .cfg) (b22 .job .given .0 .1 .1 .0 .«ts_ns») (at-loop b20) (b17 .next-of .result) (b17 .next-of .ensures (at-loop b20)) (b20 .loop .log) (b20 .loop .n) _ _ (b15 .next .given .1) Observation (b13 .max .result) (b10 .enum-told13 .given .1) (b13 .max .ensures) _ _ (looked (b20 .loop .log) _ (b20 .loop .n) (b43 .args .cfg) (b20 .loop .control) (clocked (b13 .max .result) (b20 .loop .v)) (b20 .loop .orders) (b20 .loop .msgs) (b20 .loop .awaiting) (b20 .loop .deliveries) (b20 .loop .observed) (b20 .loop .agent) (b20 .loop .account) _ (sym (entry-in 16 (observedRow (b20 .loop .observed)) blankObs 0 ((due-obs b10) .1) ((due-obs b10) .0))) (b6 .blank2 .result) (b6 .blank2 .ensures) (omega (arith, b7 .loop3-test .left)) (b8 .loop3 .inv .0) (b4 .look .result) (b4 .look .ensures .0)) (inl refl) (behind (b22 .job .given .0 .0) (b43 .args .cfg) (now (b43 .args .rows)) (b22 .job .given .0 .1 .0) (b22 .job .given .0 .1 .1 .0)) ∙ walk-goes b18 (behind (b22 .job .given .0 .0) (b43 .args .cfg) (now (b43 .args .rows)) (b22 .job .given .0 .1 .0) (b22 .job .given .0 .1 .1 .0))) (inl refl)) (b4 .look .ensures .1 (b43 .args .cfg) (now (b43 .args .rows)) (stateOf (b4 .look .result .control) (clocked (b13 .max .result) (b20 .loop .v)) (b20 .loop .orders) (b20 .loop .msgs) (b20 .loop .awaiting) (b20 .loop .deliveries) (record { slots = set (b8 .loop3 .observed .slots) (b20 .loop .observed .count - 1) (b6 .blank2 .result); count = b20 .loop .observed .count - 1 }) (b4 .look .result .agent) (b20 .loop .account)))) ∙ b27 .phases .inv .0, b4 .look .kept .0 ∙ b20 .loop .inv .2 ∙ b27 .phases .inv .1, λ e. (b20 .loop .inv .3, length-set (b8 .loop3 .observed .slots) _ _ ∙ b8 .loop3 .inv .1))
+    let b4 = c .before .before .before .before in let b6 = b4 .before .before in let b7 = b6 .before in let b8 = b7 .before in let b10 = b8 .before .before in let b13 = b10 .before .before .before in let b15 = b13 .before .before in let b17 = b15 .before .before in let b18 = b17 .before in let b20 = b18 .before .before in let b22 = b20 .before .before in let b25 = b22 .before .before .before in let b27 = b25 .before .before in let b43 = b27 .before .before .before .before .before .before .before .before .before .before .before .before .before .before .before .before in (turns-on b25 (b20 .loop .outcome) (b18 .enum-told8 .given .1) (b27 .phases .left) (b27 .phases .before) _ (stateOf (b4 .look .result .control) (clocked (b13 .max .result) (b20 .loop .v)) (b20 .loop .orders) (b20 .loop .msgs) (b20 .loop .awaiting) (b20 .loop .deliveries) (record { slots = set (b8 .loop3 .observed .slots) (b20 .loop .observed .count - 1) (b6 .blank2 .result); count = b20 .loop .observed .count - 1 }) (b4 .look .result .agent) (b20 .loop .account)) (looks-on (b43 .args .cfg) (now (b43 .args .rows)) (length (now (b43 .args .log)) / 12) (b27 .phases .left) (b27 .phases .before) (logAt (b27 .phases .log) (b27 .phases .n)) _ (at-phases b27) (stateOf (b4 .look .result .control) (clocked (b13 .max .result) (b20 .loop .v)) (b20 .loop .orders) (b20 .loop .msgs) (b20 .loop .awaiting) (b20 .loop .deliveries) (record { slots = set (b8 .loop3 .observed .slots) (b20 .loop .observed .count - 1) (b6 .blank2 .result); count = b20 .loop .observed .count - 1 }) (b4 .look .result .agent) (b20 .loop .account)) (walk-out (logAt (b27 .phases .log) (b27 .phases .n)) (b43 .args .cfg) (now (b43 .args .rows)) (b22 .job .given .0 .0) (b22 .job .given .0 .1 .0) (b22 .job .given .0 .1 .1 .0) (at-phases b27) (turn b22) (walk-stops-then (b43 .args .cfg) (b22 .job .given .0 .1 .1 .0 .«ts_ns») (at-loop b20) (b17 .next-of .result) (b17 .next-of .ensures (at-loop b20)) (b20 .loop .log) (b20 .loop .n) _ _ (b15 .next .given .1) Observation (b13 .max .result) (b10 .enum-told13 .given .1) (b13 .max .ensures) _ _ (looked (b20 .loop .log) _ (b20 .loop .n) (b43 .args .cfg) (b20 .loop .control) (clocked (b13 .max .result) (b20 .loop .v)) (b20 .loop .orders) (b20 .loop .msgs) (b20 .loop .awaiting) (b20 .loop .deliveries) (b20 .loop .observed) (b20 .loop .agent) (b20 .loop .account) _ (sym (entry-in 16 (observedRow (b20 .loop .observed)) blankObs 0 ((due-obs b10) .1) ((due-obs b10) .0))) (b6 .blank2 .result) (b6 .blank2 .ensures) (omega (arith, b7 .loop3-test .left)) (b8 .loop3 .inv .0) (b4 .look .result) (b4 .look .ensures .0)) (inl refl) (behind (b22 .job .given .0 .0) (b43 .args .cfg) (now (b43 .args .rows)) (b22 .job .given .0 .1 .0) (b22 .job .given .0 .1 .1 .0)) ∙ walk-goes b18 (behind (b22 .job .given .0 .0) (b43 .args .cfg) (now (b43 .args .rows)) (b22 .job .given .0 .1 .0) (b22 .job .given .0 .1 .1 .0))) (inl refl)) (b4 .look .ensures .1 (b43 .args .cfg) (now (b43 .args .rows)) (stateOf (b4 .look .result .control) (clocked (b13 .max .result) (b20 .loop .v)) (b20 .loop .orders) (b20 .loop .msgs) (b20 .loop .awaiting) (b20 .loop .deliveries) (record { slots = set (b8 .loop3 .observed .slots) (b20 .loop .observed .count - 1) (b6 .blank2 .result); count = b20 .loop .observed .count - 1 }) (b4 .look .result .agent) (b20 .loop .account)))), b4 .look .kept .0 ∙ b20 .loop .inv .2 ∙ b27 .phases .inv .1, λ e. (b20 .loop .inv .3, length-set (b8 .loop3 .observed .slots) _ _ ∙ b8 .loop3 .inv .1))
 
 -- a row's end: its sum does not fit
 phases-less-6 : tie.Need-phases-less-6 Inv-loop2 μ-loop2 Inv-loop3 μ-loop3 Inv-loop μ-loop Inv-loop4 μ-loop4 Inv-phases μ-phases
@@ -321,7 +333,7 @@ phases-less-6 c =
 
 phases-again-6 : tie.Need-phases-again-6 Inv-loop2 μ-loop2 Inv-loop3 μ-loop3 Inv-loop μ-loop Inv-loop4 μ-loop4 Inv-phases μ-phases
 phases-again-6 c =
-    let b2 = c .before .before in let b3 = b2 .before in let b5 = b3 .before .before in let b10 = b5 .before .before .before .before .before in let b12 = b10 .before .before in let b14 = b12 .before .before in let b15 = b14 .before in let b17 = b15 .before .before in let b33 = b17 .before .before .before .before .before .before .before .before .before .before .before .before .before .before .before .before in (ends-at b15 (Halt LedgerOverflow) (at-loop b10) (logAt (b10 .loop .log) (b10 .loop .n)) (phases-left (b33 .args .cfg) (now (b33 .args .rows)) (at-phases b17) _ (turn-of (b33 .args .cfg) (now (b33 .args .rows)) (at-phases b17) (b14 .job-of .result) (b14 .job-of .ensures (b33 .args .cfg) (at-phases b17)) (work-of (b12 .job .given .1) (b3 .enum-told14 .given .1))) (logAt (b17 .phases .log) (b17 .phases .n)) (settle-past (logAt (b17 .phases .log) (b17 .phases .n)) (b33 .args .cfg) (now (b33 .args .rows)) (b12 .job .given .0 .1 .0) (b12 .job .given .0 .1 .1 .0) (at-phases b17) (b10 .loop .log) (b10 .loop .n) (at-loop b10) (walked b5) (b2 .checked-add .result) (b2 .checked-add .ensures) (c .enum-told16 .given .1)) (inr (inl refl))) (inr (inl refl)) (waits-not b10) ∙ b17 .phases .inv .0, b10 .loop .inv .2 ∙ b17 .phases .inv .1, λ e. (b10 .loop .inv .3, b10 .loop .inv .4))
+    let b2 = c .before .before in let b3 = b2 .before in let b5 = b3 .before .before in let b10 = b5 .before .before .before .before .before in let b12 = b10 .before .before in let b14 = b12 .before .before in let b15 = b14 .before in let b17 = b15 .before .before in let b33 = b17 .before .before .before .before .before .before .before .before .before .before .before .before .before .before .before .before in (ends-at b15 (Halt LedgerOverflow) (at-loop b10) (logAt (b10 .loop .log) (b10 .loop .n)) (phases-left (b33 .args .cfg) (now (b33 .args .rows)) (at-phases b17) _ (turn-of (b33 .args .cfg) (now (b33 .args .rows)) (at-phases b17) (b14 .job-of .result) (b14 .job-of .ensures (b33 .args .cfg) (at-phases b17)) (work-of (b12 .job .given .1) (b3 .enum-told14 .given .1))) (logAt (b17 .phases .log) (b17 .phases .n)) (settle-past (logAt (b17 .phases .log) (b17 .phases .n)) (b33 .args .cfg) (now (b33 .args .rows)) (b12 .job .given .0 .1 .0) (b12 .job .given .0 .1 .1 .0) (at-phases b17) (b10 .loop .log) (b10 .loop .n) (at-loop b10) (walked b5) (b2 .checked-add .result) (b2 .checked-add .ensures) (c .enum-told16 .given .1)) (inr (inl refl))) (inr (inl refl)) (waits-not b10), b10 .loop .inv .2 ∙ b17 .phases .inv .1, λ e. (b10 .loop .inv .3, b10 .loop .inv .4))
 
 -- a row's match: its sum does not fit
 phases-less-7 : tie.Need-phases-less-7 Inv-loop2 μ-loop2 Inv-loop3 μ-loop3 Inv-loop μ-loop Inv-loop4 μ-loop4 Inv-phases μ-phases
@@ -330,7 +342,7 @@ phases-less-7 c =
 
 phases-again-7 : tie.Need-phases-again-7 Inv-loop2 μ-loop2 Inv-loop3 μ-loop3 Inv-loop μ-loop Inv-loop4 μ-loop4 Inv-phases μ-phases
 phases-again-7 c =
-    let b2 = c .before .before in let b3 = b2 .before in let b5 = b3 .before .before in let b10 = b5 .before .before .before .before .before in let b12 = b10 .before .before in let b17 = b12 .before .before .before .before .before in let b33 = b17 .before .before .before .before .before .before .before .before .before .before .before .before .before .before .before .before in (match-out b3 _ _ _ (match-past (logAt (b17 .phases .log) (b17 .phases .n)) (b33 .args .cfg) (b12 .job .given .0 .1 .0) (b12 .job .given .0 .1 .1 .0) (at-phases b17) (b10 .loop .log) (b10 .loop .n) (at-loop b10) (walked b5) (openedIn (at-loop b10) (b10 .loop .n) (b2 .open-row .result)) (b10 .loop .log) (b2 .open-row .ensures (at-loop b10) (b10 .loop .n) (b10 .loop .log)) (c .match11 .keys2)) (c .match11 .keys2) (waits-not b10) ∙ b17 .phases .inv .0, b10 .loop .inv .2 ∙ b17 .phases .inv .1, λ e. (b10 .loop .inv .3, b10 .loop .inv .4))
+    let b2 = c .before .before in let b3 = b2 .before in let b5 = b3 .before .before in let b10 = b5 .before .before .before .before .before in let b12 = b10 .before .before in let b17 = b12 .before .before .before .before .before in let b33 = b17 .before .before .before .before .before .before .before .before .before .before .before .before .before .before .before .before in (match-out b3 _ _ _ (match-past (logAt (b17 .phases .log) (b17 .phases .n)) (b33 .args .cfg) (b12 .job .given .0 .1 .0) (b12 .job .given .0 .1 .1 .0) (at-phases b17) (b10 .loop .log) (b10 .loop .n) (at-loop b10) (walked b5) (openedIn (at-loop b10) (b10 .loop .n) (b2 .open-row .result)) (b10 .loop .log) (b2 .open-row .ensures (at-loop b10) (b10 .loop .n) (b10 .loop .log)) (c .match11 .keys2)) (c .match11 .keys2) (waits-not b10), b10 .loop .inv .2 ∙ b17 .phases .inv .1, λ e. (b10 .loop .inv .3, b10 .loop .inv .4))
 
 -- an order is not filled
 loop4-again : tie.Need-loop4-again Inv-loop2 μ-loop2 Inv-loop3 μ-loop3 Inv-loop μ-loop Inv-loop4 μ-loop4 Inv-phases μ-phases
@@ -344,7 +356,7 @@ phases-less-8 c =
 
 phases-again-8 : tie.Need-phases-again-8 Inv-loop2 μ-loop2 Inv-loop3 μ-loop3 Inv-loop μ-loop Inv-loop4 μ-loop4 Inv-phases μ-phases
 phases-again-8 c =
-    let b2 = c .before .before in let b4 = b2 .before .before in let b5 = b4 .before in let b6 = b5 .before in let b11 = b6 .before .before .before .before .before in let b18 = b11 .before .before .before .before .before .before .before in let b20 = b18 .before .before in let b25 = b20 .before .before .before .before .before in let b41 = b25 .before .before .before .before .before .before .before .before .before .before .before .before .before .before .before .before in (match-out b11 _ _ _ (passed b5 _ (place-fails (logAt (b5 .loop4 .log) (b5 .loop4 .n)) (b41 .args .cfg) (b20 .job .given .0 .1 .1 .0) (b6 .looks .result - b5 .loop4 .i) (b6 .looks .result - (b5 .loop4 .i + 1)) (b5 .loop4 .i) (omega (arith, b4 .loop4-test .taken)) (at-pass b5) (swept (b41 .args .cfg) (b20 .job .given .0 .1 .0) (b20 .job .given .0 .1 .1 .0)) _ (there b4) (sym (b2 .lots-of .ensures) ∙ ap ruleFills (c .enum-told20 .given .1)))) (inr (inl refl)) (waits-not b18) ∙ b25 .phases .inv .0, b5 .loop4 .inv .3 ∙ b18 .loop .inv .2 ∙ b25 .phases .inv .1, λ e. (b5 .loop4 .inv .4, b18 .loop .inv .4))
+    let b2 = c .before .before in let b4 = b2 .before .before in let b5 = b4 .before in let b6 = b5 .before in let b11 = b6 .before .before .before .before .before in let b18 = b11 .before .before .before .before .before .before .before in let b20 = b18 .before .before in let b25 = b20 .before .before .before .before .before in let b41 = b25 .before .before .before .before .before .before .before .before .before .before .before .before .before .before .before .before in (match-out b11 _ _ _ (passed b5 _ (place-fails (logAt (b5 .loop4 .log) (b5 .loop4 .n)) (b41 .args .cfg) (b20 .job .given .0 .1 .1 .0) (b6 .looks .result - b5 .loop4 .i) (b6 .looks .result - (b5 .loop4 .i + 1)) (b5 .loop4 .i) (omega (arith, b4 .loop4-test .taken)) (at-pass b5) (swept (b41 .args .cfg) (b20 .job .given .0 .1 .0) (b20 .job .given .0 .1 .1 .0)) _ (there b4) (sym (b2 .lots-of .ensures) ∙ ap ruleFills (c .enum-told20 .given .1)))) (inr (inl refl)) (waits-not b18), b5 .loop4 .inv .3 ∙ b18 .loop .inv .2 ∙ b25 .phases .inv .1, λ e. (b5 .loop4 .inv .4, b18 .loop .inv .4))
 
 -- a fill stops
 phases-less-9 : tie.Need-phases-less-9 Inv-loop2 μ-loop2 Inv-loop3 μ-loop3 Inv-loop μ-loop Inv-loop4 μ-loop4 Inv-phases μ-phases
@@ -353,7 +365,7 @@ phases-less-9 c =
 
 phases-again-9 : tie.Need-phases-again-9 Inv-loop2 μ-loop2 Inv-loop3 μ-loop3 Inv-loop μ-loop Inv-loop4 μ-loop4 Inv-phases μ-phases
 phases-again-9 c =
-    let b5 = c .before .before .before .before .before in let b9 = b5 .before .before .before .before in let b11 = b9 .before .before in let b13 = b11 .before .before in let b14 = b13 .before in let b15 = b14 .before in let b20 = b15 .before .before .before .before .before in let b27 = b20 .before .before .before .before .before .before .before in let b29 = b27 .before .before in let b34 = b29 .before .before .before .before .before in let b50 = b34 .before .before .before .before .before .before .before .before .before .before .before .before .before .before .before .before in (match-out b20 _ _ _ (passed b14 _ (place-stops (logAt (b14 .loop4 .log) (b14 .loop4 .n)) (b50 .args .cfg) (b29 .job .given .0 .1 .1 .0) (b15 .looks .result - b14 .loop4 .i) (b15 .looks .result - (b14 .loop4 .i + 1)) (b14 .loop4 .i) (omega (arith, b13 .loop4-test .taken)) (at-pass b14) (swept (b50 .args .cfg) (b29 .job .given .0 .1 .0) (b29 .job .given .0 .1 .1 .0)) _ (there b13) _ _ ((sym (b11 .lots-of .ensures) ∙ ap ruleFills (b9 .lots .given .1)) ∙ ap (λ (z : VenueOrder). fills z (b9 .lots .given .0 .1 .0)) ((filling b9) .0)) _ _ (filled-stops (b14 .loop4 .log) _ (b14 .loop4 .n) (b50 .args .cfg) (b14 .loop4 .i) (b27 .loop .control) (b14 .loop4 .v) (b14 .loop4 .orders) (b27 .loop .msgs) (b27 .loop .awaiting) (b14 .loop4 .deliveries) (b27 .loop .observed) (b27 .loop .agent) (b27 .loop .account) _ (b9 .lots .given .0 .1 .0) (b5 .fill-order .result) (b5 .fill-order .ensures .0) (there b13) ((filling b9) .1) (c .match13 .keys2)) (c .match13 .keys2))) (c .match13 .keys2) (waits-not b27) ∙ b34 .phases .inv .0, b5 .fill-order .kept .0 ∙ b14 .loop4 .inv .3 ∙ b27 .loop .inv .2 ∙ b34 .phases .inv .1, λ e. (b14 .loop4 .inv .4, b27 .loop .inv .4))
+    let b5 = c .before .before .before .before .before in let b9 = b5 .before .before .before .before in let b11 = b9 .before .before in let b13 = b11 .before .before in let b14 = b13 .before in let b15 = b14 .before in let b20 = b15 .before .before .before .before .before in let b27 = b20 .before .before .before .before .before .before .before in let b29 = b27 .before .before in let b34 = b29 .before .before .before .before .before in let b50 = b34 .before .before .before .before .before .before .before .before .before .before .before .before .before .before .before .before in (match-out b20 _ _ _ (passed b14 _ (place-stops (logAt (b14 .loop4 .log) (b14 .loop4 .n)) (b50 .args .cfg) (b29 .job .given .0 .1 .1 .0) (b15 .looks .result - b14 .loop4 .i) (b15 .looks .result - (b14 .loop4 .i + 1)) (b14 .loop4 .i) (omega (arith, b13 .loop4-test .taken)) (at-pass b14) (swept (b50 .args .cfg) (b29 .job .given .0 .1 .0) (b29 .job .given .0 .1 .1 .0)) _ (there b13) _ _ ((sym (b11 .lots-of .ensures) ∙ ap ruleFills (b9 .lots .given .1)) ∙ ap (λ (z : VenueOrder). fills z (b9 .lots .given .0 .1 .0)) ((filling b9) .0)) _ _ (filled-stops (b14 .loop4 .log) _ (b14 .loop4 .n) (b50 .args .cfg) (b14 .loop4 .i) (b27 .loop .control) (b14 .loop4 .v) (b14 .loop4 .orders) (b27 .loop .msgs) (b27 .loop .awaiting) (b14 .loop4 .deliveries) (b27 .loop .observed) (b27 .loop .agent) (b27 .loop .account) _ (b9 .lots .given .0 .1 .0) (b5 .fill-order .result) (b5 .fill-order .ensures .0) (there b13) ((filling b9) .1) (c .match13 .keys2)) (c .match13 .keys2))) (c .match13 .keys2) (waits-not b27), b5 .fill-order .kept .0 ∙ b14 .loop4 .inv .3 ∙ b27 .loop .inv .2 ∙ b34 .phases .inv .1, λ e. (b14 .loop4 .inv .4, b27 .loop .inv .4))
 
 -- an order is filled
 loop4-again-2 : tie.Need-loop4-again-2 Inv-loop2 μ-loop2 Inv-loop3 μ-loop3 Inv-loop μ-loop Inv-loop4 μ-loop4 Inv-phases μ-phases
@@ -367,7 +379,7 @@ phases-less-10 c =
 
 phases-again-10 : tie.Need-phases-again-10 Inv-loop2 μ-loop2 Inv-loop3 μ-loop3 Inv-loop μ-loop Inv-loop4 μ-loop4 Inv-phases μ-phases
 phases-again-10 c =
-    let b4 = c .before .before .before .before in let b6 = b4 .before .before in let b8 = b6 .before .before in let b14 = b8 .before .before .before .before .before .before in let b21 = b14 .before .before .before .before .before .before .before in let b23 = b21 .before .before in let b28 = b23 .before .before .before .before .before in let b44 = b28 .before .before .before .before .before .before .before .before .before .before .before .before .before .before .before .before in (match-out b14 _ _ _ (pass-over b6 _ (sweep-stops (b8 .loop4 .log) (b8 .loop4 .n) (at-pass b8) (b4 .sweep .result) (queueObservation (b44 .args .cfg) (b23 .job .given .0 .1 .0) (b23 .job .given .0 .1 .1 .0)) (b4 .sweep .ensures (at-pass b8) (b8 .loop4 .n) (b8 .loop4 .log)) (c .match14 .keys2))) (c .match14 .keys2) (waits-not b21) ∙ b28 .phases .inv .0, b8 .loop4 .inv .3 ∙ b21 .loop .inv .2 ∙ b28 .phases .inv .1, λ e. (b8 .loop4 .inv .4, b21 .loop .inv .4))
+    let b4 = c .before .before .before .before in let b6 = b4 .before .before in let b8 = b6 .before .before in let b14 = b8 .before .before .before .before .before .before in let b21 = b14 .before .before .before .before .before .before .before in let b23 = b21 .before .before in let b28 = b23 .before .before .before .before .before in let b44 = b28 .before .before .before .before .before .before .before .before .before .before .before .before .before .before .before .before in (match-out b14 _ _ _ (pass-over b6 _ (sweep-stops (b8 .loop4 .log) (b8 .loop4 .n) (at-pass b8) (b4 .sweep .result) (queueObservation (b44 .args .cfg) (b23 .job .given .0 .1 .0) (b23 .job .given .0 .1 .1 .0)) (b4 .sweep .ensures (at-pass b8) (b8 .loop4 .n) (b8 .loop4 .log)) (c .match14 .keys2))) (c .match14 .keys2) (waits-not b21), b8 .loop4 .inv .3 ∙ b21 .loop .inv .2 ∙ b28 .phases .inv .1, λ e. (b8 .loop4 .inv .4, b21 .loop .inv .4))
 
 -- the observation stops
 phases-less-11 : tie.Need-phases-less-11 Inv-loop2 μ-loop2 Inv-loop3 μ-loop3 Inv-loop μ-loop Inv-loop4 μ-loop4 Inv-phases μ-phases
@@ -376,7 +388,7 @@ phases-less-11 c =
 
 phases-again-11 : tie.Need-phases-again-11 Inv-loop2 μ-loop2 Inv-loop3 μ-loop3 Inv-loop μ-loop Inv-loop4 μ-loop4 Inv-phases μ-phases
 phases-again-11 c =
-    let b3 = c .before .before .before in let b4 = b3 .before in let b7 = b4 .before .before .before in let b13 = b7 .before .before .before .before .before .before in let b20 = b13 .before .before .before .before .before .before .before in let b22 = b20 .before .before in let b27 = b22 .before .before .before .before .before in let b43 = b27 .before .before .before .before .before .before .before .before .before .before .before .before .before .before .before .before in (match-out b13 _ _ _ (sweep-over b4 _ (queued-stops (b7 .loop4 .log) (b7 .loop4 .n) (b22 .job .given .0 .1 .0) (b43 .args .cfg) (b22 .job .given .0 .1 .1 .0) (b20 .loop .control) (b7 .loop4 .v) (b4 .if1 .orders) (b4 .if1 .msgs) (b4 .if1 .awaiting) (b7 .loop4 .deliveries) (b20 .loop .observed) (b20 .loop .agent) (b20 .loop .account) (b3 .observed-at .result) (b3 .observed-at .ensures .0) (c .match15 .keys2))) (c .match15 .keys2) (b3 .observed-at .ensures .2 (waits-not b20)) ∙ b27 .phases .inv .0, b7 .loop4 .inv .3 ∙ b20 .loop .inv .2 ∙ b27 .phases .inv .1, λ e. (b7 .loop4 .inv .4, b20 .loop .inv .4))
+    let b3 = c .before .before .before in let b4 = b3 .before in let b7 = b4 .before .before .before in let b13 = b7 .before .before .before .before .before .before in let b20 = b13 .before .before .before .before .before .before .before in let b22 = b20 .before .before in let b27 = b22 .before .before .before .before .before in let b43 = b27 .before .before .before .before .before .before .before .before .before .before .before .before .before .before .before .before in (match-out b13 _ _ _ (sweep-over b4 _ (queued-stops (b7 .loop4 .log) (b7 .loop4 .n) (b22 .job .given .0 .1 .0) (b43 .args .cfg) (b22 .job .given .0 .1 .1 .0) (b20 .loop .control) (b7 .loop4 .v) (b4 .if1 .orders) (b4 .if1 .msgs) (b4 .if1 .awaiting) (b7 .loop4 .deliveries) (b20 .loop .observed) (b20 .loop .agent) (b20 .loop .account) (b3 .observed-at .result) (b3 .observed-at .ensures .0) (c .match15 .keys2))) (c .match15 .keys2) (b3 .observed-at .ensures .2 (waits-not b20)), b7 .loop4 .inv .3 ∙ b20 .loop .inv .2 ∙ b27 .phases .inv .1, λ e. (b7 .loop4 .inv .4, b20 .loop .inv .4))
 
 -- the row is matched, and its observation waits
 phases-less-12 : tie.Need-phases-less-12 Inv-loop2 μ-loop2 Inv-loop3 μ-loop3 Inv-loop μ-loop Inv-loop4 μ-loop4 Inv-phases μ-phases
@@ -385,7 +397,7 @@ phases-less-12 c =
 
 phases-again-12 : tie.Need-phases-again-12 Inv-loop2 μ-loop2 Inv-loop3 μ-loop3 Inv-loop μ-loop Inv-loop4 μ-loop4 Inv-phases μ-phases
 phases-again-12 c =
-    let b4 = c .before .before .before .before in let b5 = b4 .before in let b8 = b5 .before .before .before in let b14 = b8 .before .before .before .before .before .before in let b21 = b14 .before .before .before .before .before .before .before in let b23 = b21 .before .before in let b26 = b23 .before .before .before in let b28 = b26 .before .before in let b44 = b28 .before .before .before .before .before .before .before .before .before .before .before .before .before .before .before .before in (goes-on (b44 .args .cfg) (now (b44 .args .rows)) (length (now (b44 .args .log)) / 12) (b28 .phases .left) (b28 .phases .before) (logAt (b28 .phases .log) (b28 .phases .n)) (at-phases b28) (b28 .phases .outcome) (b26 .enum-told3 .given .1) (b4 .observed-at .result .outcome) (c .enum-told23 .given .1) (b28 .phases .left) (b28 .phases .before) (logAt (b8 .loop4 .log) (b8 .loop4 .n)) (stateOf (b4 .observed-at .result .control) (b4 .observed-at .result .venue) (b5 .if1 .orders) (b5 .if1 .msgs) (b5 .if1 .awaiting) (b8 .loop4 .deliveries) (record { slots = set (b21 .loop .observed .slots) (b21 .loop .observed .count) (record { «ready_ns» = b4 .observed-at .result .venue .clock .«last_observed_ns»; row = (b23 .job .given .0 .1 .0) }); count = b21 .loop .observed .count + 1 }) (b21 .loop .agent) (b21 .loop .account)) (ap (afterCall (b44 .args .cfg) (now (b44 .args .rows)) (length (now (b44 .args .log)) / 12) (b28 .phases .left) (b28 .phases .before)) (phases-on (b44 .args .cfg) (now (b44 .args .rows)) (at-phases b28) _ (turn-match b14) (logAt (b28 .phases .log) (b28 .phases .n)) (queues c) (c .enum-told23 .given .1))) ∙ b28 .phases .inv .0, b8 .loop4 .inv .3 ∙ b21 .loop .inv .2 ∙ b28 .phases .inv .1, λ e. (b8 .loop4 .inv .4, length-set (b21 .loop .observed .slots) _ _ ∙ b21 .loop .inv .4))
+    let b4 = c .before .before .before .before in let b5 = b4 .before in let b8 = b5 .before .before .before in let b14 = b8 .before .before .before .before .before .before in let b21 = b14 .before .before .before .before .before .before .before in let b23 = b21 .before .before in let b26 = b23 .before .before .before in let b28 = b26 .before .before in let b44 = b28 .before .before .before .before .before .before .before .before .before .before .before .before .before .before .before .before in (turns-on b26 (b4 .observed-at .result .outcome) (c .enum-told23 .given .1) (b28 .phases .left) (b28 .phases .before) (logAt (b8 .loop4 .log) (b8 .loop4 .n)) (stateOf (b4 .observed-at .result .control) (b4 .observed-at .result .venue) (b5 .if1 .orders) (b5 .if1 .msgs) (b5 .if1 .awaiting) (b8 .loop4 .deliveries) (record { slots = set (b21 .loop .observed .slots) (b21 .loop .observed .count) (record { «ready_ns» = b4 .observed-at .result .venue .clock .«last_observed_ns»; row = (b23 .job .given .0 .1 .0) }); count = b21 .loop .observed .count + 1 }) (b21 .loop .agent) (b21 .loop .account)) (ap (afterCall (b44 .args .cfg) (now (b44 .args .rows)) (length (now (b44 .args .log)) / 12) (b28 .phases .left) (b28 .phases .before)) (phases-on (b44 .args .cfg) (now (b44 .args .rows)) (at-phases b28) _ (turn-match b14) (logAt (b28 .phases .log) (b28 .phases .n)) (queues c) (c .enum-told23 .given .1))), b8 .loop4 .inv .3 ∙ b21 .loop .inv .2 ∙ b28 .phases .inv .1, λ e. (b8 .loop4 .inv .4, length-set (b21 .loop .observed .slots) _ _ ∙ b21 .loop .inv .4))
 
 -- the data ends
 phases-less-13 : tie.Need-phases-less-13 Inv-loop2 μ-loop2 Inv-loop3 μ-loop3 Inv-loop μ-loop Inv-loop4 μ-loop4 Inv-phases μ-phases
@@ -394,7 +406,7 @@ phases-less-13 c =
 
 phases-again-13 : tie.Need-phases-again-13 Inv-loop2 μ-loop2 Inv-loop3 μ-loop3 Inv-loop μ-loop Inv-loop4 μ-loop4 Inv-phases μ-phases
 phases-again-13 c =
-    let b9 = c .before .before .before .before .before .before .before .before .before in let b11 = b9 .before .before in let b13 = b11 .before .before in let b14 = b13 .before in let b16 = b14 .before .before in let b18 = b16 .before .before in let b34 = b18 .before .before .before .before .before .before .before .before .before .before .before .before .before .before .before .before in (ends-at b16 _ _ _ (phases-left (b34 .args .cfg) (now (b34 .args .rows)) (at-phases b18) _ (joined-turn b14 .1) (logAt (b18 .phases .log) (b18 .phases .n)) (onward-end (logAt (b14 .match3 .log) (b14 .match3 .n)) (b34 .args .cfg) (now (b34 .args .rows)) (stateOf (b14 .match3 .control) (b14 .match3 .v) (b14 .match3 .orders) (b14 .match3 .msgs) (b14 .match3 .awaiting) (b14 .match3 .deliveries) (b14 .match3 .observed) (b14 .match3 .agent) (b14 .match3 .account)) (b13 .next-row .result) (b13 .next-row .ensures (stateOf (b14 .match3 .control) (b14 .match3 .v) (b14 .match3 .orders) (b14 .match3 .msgs) (b14 .match3 .awaiting) (b14 .match3 .deliveries) (b14 .match3 .observed) (b14 .match3 .agent) (b14 .match3 .account))) (b11 .enum-told24 .given .1) (b9 .end-of-data .ensures .0 (stateOf (b14 .match3 .control) (b14 .match3 .v) (b14 .match3 .orders) (b14 .match3 .msgs) (b14 .match3 .awaiting) (b14 .match3 .deliveries) (b14 .match3 .observed) (b14 .match3 .agent) (b14 .match3 .account))) ∙ joined-turn b14 .2) (data-ends b9)) (data-ends b9) (b9 .end-of-data .ensures .1 (joined-turn b14 .6)) ∙ b18 .phases .inv .0, b9 .end-of-data .kept .0 ∙ joined-turn b14 .3 ∙ b18 .phases .inv .1, stopped-not (b9 .end-of-data .result .outcome) (data-ends b9))
+    let b9 = c .before .before .before .before .before .before .before .before .before in let b11 = b9 .before .before in let b13 = b11 .before .before in let b14 = b13 .before in let b16 = b14 .before .before in let b18 = b16 .before .before in let b34 = b18 .before .before .before .before .before .before .before .before .before .before .before .before .before .before .before .before in (ends-at b16 _ _ _ (phases-left (b34 .args .cfg) (now (b34 .args .rows)) (at-phases b18) _ (joined-turn b14 .1) (logAt (b18 .phases .log) (b18 .phases .n)) (onward-end (logAt (b14 .match3 .log) (b14 .match3 .n)) (b34 .args .cfg) (now (b34 .args .rows)) (stateOf (b14 .match3 .control) (b14 .match3 .v) (b14 .match3 .orders) (b14 .match3 .msgs) (b14 .match3 .awaiting) (b14 .match3 .deliveries) (b14 .match3 .observed) (b14 .match3 .agent) (b14 .match3 .account)) (b13 .next-row .result) (b13 .next-row .ensures (stateOf (b14 .match3 .control) (b14 .match3 .v) (b14 .match3 .orders) (b14 .match3 .msgs) (b14 .match3 .awaiting) (b14 .match3 .deliveries) (b14 .match3 .observed) (b14 .match3 .agent) (b14 .match3 .account))) (b11 .enum-told24 .given .1) (b9 .end-of-data .ensures .0 (stateOf (b14 .match3 .control) (b14 .match3 .v) (b14 .match3 .orders) (b14 .match3 .msgs) (b14 .match3 .awaiting) (b14 .match3 .deliveries) (b14 .match3 .observed) (b14 .match3 .agent) (b14 .match3 .account))) ∙ joined-turn b14 .2) (data-ends b9)) (data-ends b9) (b9 .end-of-data .ensures .1 (joined-turn b14 .6)), b9 .end-of-data .kept .0 ∙ joined-turn b14 .3 ∙ b18 .phases .inv .1, stopped-not (b9 .end-of-data .result .outcome) (data-ends b9))
 
 -- the next row
 phases-less-14 : tie.Need-phases-less-14 Inv-loop2 μ-loop2 Inv-loop3 μ-loop3 Inv-loop μ-loop Inv-loop4 μ-loop4 Inv-phases μ-phases
@@ -403,7 +415,7 @@ phases-less-14 c =
 
 phases-again-14 : tie.Need-phases-again-14 Inv-loop2 μ-loop2 Inv-loop3 μ-loop3 Inv-loop μ-loop Inv-loop4 μ-loop4 Inv-phases μ-phases
 phases-again-14 c =
-    let b1 = c .before in let b3 = b1 .before .before in let b4 = b3 .before in let b6 = b4 .before .before in let b8 = b6 .before .before in let b24 = b8 .before .before .before .before .before .before .before .before .before .before .before .before .before .before .before .before in (goes-on (b24 .args .cfg) (now (b24 .args .rows)) (length (now (b24 .args .log)) / 12) (b8 .phases .left) (b8 .phases .before) (logAt (b8 .phases .log) (b8 .phases .n)) (at-phases b8) (b8 .phases .outcome) (b6 .enum-told3 .given .1) (b4 .match3 .outcome) (joined-turn b4 .7) (b8 .phases .left) (b8 .phases .before) _ _ (ap (afterCall (b24 .args .cfg) (now (b24 .args .rows)) (length (now (b24 .args .log)) / 12) (b8 .phases .left) (b8 .phases .before)) (phases-on (b24 .args .cfg) (now (b24 .args .rows)) (at-phases b8) _ (joined-turn b4 .1) (logAt (b8 .phases .log) (b8 .phases .n)) (onward-to (logAt (b4 .match3 .log) (b4 .match3 .n)) (b24 .args .cfg) (now (b24 .args .rows)) (stateOf (b4 .match3 .control) (b4 .match3 .v) (b4 .match3 .orders) (b4 .match3 .msgs) (b4 .match3 .awaiting) (b4 .match3 .deliveries) (b4 .match3 .observed) (b4 .match3 .agent) (b4 .match3 .account)) (b3 .next-row .result) (b3 .next-row .ensures (stateOf (b4 .match3 .control) (b4 .match3 .v) (b4 .match3 .orders) (b4 .match3 .msgs) (b4 .match3 .awaiting) (b4 .match3 .deliveries) (b4 .match3 .observed) (b4 .match3 .agent) (b4 .match3 .account))) _ (b1 .onward .given .1) ∙ joined-turn b4 .2) refl)) ∙ b8 .phases .inv .0, joined-turn b4 .3 ∙ b8 .phases .inv .1, λ e. (joined-turn b4 .4, joined-turn b4 .5))
+    let b1 = c .before in let b3 = b1 .before .before in let b4 = b3 .before in let b6 = b4 .before .before in let b8 = b6 .before .before in let b24 = b8 .before .before .before .before .before .before .before .before .before .before .before .before .before .before .before .before in (turns-on b6 (b4 .match3 .outcome) (joined-turn b4 .7) (b8 .phases .left) (b8 .phases .before) _ _ (ap (afterCall (b24 .args .cfg) (now (b24 .args .rows)) (length (now (b24 .args .log)) / 12) (b8 .phases .left) (b8 .phases .before)) (phases-on (b24 .args .cfg) (now (b24 .args .rows)) (at-phases b8) _ (joined-turn b4 .1) (logAt (b8 .phases .log) (b8 .phases .n)) (onward-to (logAt (b4 .match3 .log) (b4 .match3 .n)) (b24 .args .cfg) (now (b24 .args .rows)) (stateOf (b4 .match3 .control) (b4 .match3 .v) (b4 .match3 .orders) (b4 .match3 .msgs) (b4 .match3 .awaiting) (b4 .match3 .deliveries) (b4 .match3 .observed) (b4 .match3 .agent) (b4 .match3 .account)) (b3 .next-row .result) (b3 .next-row .ensures (stateOf (b4 .match3 .control) (b4 .match3 .v) (b4 .match3 .orders) (b4 .match3 .msgs) (b4 .match3 .awaiting) (b4 .match3 .deliveries) (b4 .match3 .observed) (b4 .match3 .agent) (b4 .match3 .account))) _ (b1 .onward .given .1) ∙ joined-turn b4 .2) refl)), joined-turn b4 .3 ∙ b8 .phases .inv .1, λ e. (joined-turn b4 .4, joined-turn b4 .5))
 
 returns-2 : tie.Need-returns-2 Inv-loop2 μ-loop2 Inv-loop3 μ-loop3 Inv-loop μ-loop Inv-loop4 μ-loop4 Inv-phases μ-phases
 returns-2 c =

@@ -1,2 +1,1 @@
-pub mod Lots
 pub mod Numbers

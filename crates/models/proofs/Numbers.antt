@@ -1,15 +1,8 @@
--- A test for 0, and a draw at the largest number. Assumes nothing.
-use mathlib.Core.Bool.{true}
+-- A draw at the largest number. Assumes nothing.
 use mathlib.Core.Path.{_≡_, sym}
 use Prim.Native.Nat.{ℕ, _+_, _%_}
 use native.Mathlib.Nat.{mod-eq-of-lt}
 use native.Mathlib.Omega.{arith}
-use borrow.Author.Tests.{lt-ltb}
-use lib.Dec.{ltb}
-
--- what is not 0 is above it
-pub above : (n : ℕ) → (n ≡ 0 → ⊥) → ltb 0 n ≡ true
-above n h = lt-ltb 0 n (omega arith)
 
 -- modulo the largest number plus one it is all of the value
 pub whole : (v x m : ℕ) → v ≡ x % 18446744073709551616 → m ≡ 18446744073709551615 → v ≡ x % 18446744073709551616 % (m + 1)

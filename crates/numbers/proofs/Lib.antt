@@ -1,4 +1,3 @@
 pub mod Fitting
 pub mod Products
 pub mod Signed
-pub mod WideLaws

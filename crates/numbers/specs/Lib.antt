@@ -1,4 +1,3 @@
 pub mod Choice
 pub mod Words
-pub mod Wide
 pub mod Position

@@ -67,8 +67,7 @@ fn play(
         sum = add_log(sum, log, a.events);
     }
     for _ in 0..u64::MAX {
-        let s = a.state;
-        let control = s.control;
+        let control = a.state.control;
         let phase = control.phase;
         if !is_paused(phase) {
             break;
@@ -83,13 +82,10 @@ fn play(
             sum = add_log(sum, log, a.events);
         }
     }
-    let last = a.state;
-    let gate = last.gate;
-    let position = gate.venue_pos;
     Total {
         events,
         sum,
-        position: position.lots,
+        position: a.state.gate.venue_pos.lots,
     }
 }
 

@@ -38,14 +38,11 @@ fn print_turns(
     log: &mut [u64],
     out: &mut [u8],
 ) -> Turned {
-    let t = turns(cfg, rows, state, filled, log, out);
-    let n = t.length;
-    if print(out, n) {
-        return t;
+    let mut t = turns(cfg, rows, state, filled, log, out);
+    if !print(out, t.length) {
+        t.more = false;
     }
-    let mut stopped = t;
-    stopped.more = false;
-    stopped
+    t
 }
 
 // The log of a batch is 1,023 records, and the text has room for their lines. A proved loop has to end, so its batches count down, from more than any run has: each turn but the last pauses at a row's observation, and a run file has at most 512 rows.
@@ -84,9 +81,7 @@ fn replay_text(text: &[u8]) {
         print_bad(line);
         return;
     }
-    let cfg = script.cfg;
-    let state = script.state;
-    run_first(cfg, rows, script.rows, state);
+    run_first(script.cfg, rows, script.rows, script.state);
 }
 
 // Behind what was read: where a file could not be read to its end, as a folder, a further read fails too.

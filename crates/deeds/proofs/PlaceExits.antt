@@ -9,12 +9,13 @@ use native.Mathlib.Omega.{arith}
 use types.Run.{OneOf}
 use denote.Enum.Declared.{tagOf}
 use lib.ListN.{getD}
-use Rattle.lists.specs.Lists.{Row, live, foundIn, entryAt}
+use Rattle.lists.specs.Lists.{Row, onSome, live, foundIn, takeAt, entryAt}
 use Rattle.lists.proofs.Exits.{entry-in}
 use Rattle.lists.proofs.Sums.{found-live}
-use Rattle.book.specs.Entries.{blankOrder, blankMsg, activates, isActivation, place}
+use Rattle.book.specs.Entries.{blankOrder, blankMsg, activates, isActivation, isExpiry, place}
 use Rattle.orders.specs.Rows.{ordersRow, orderIn}
-use Rattle.msgs.specs.Rows.{msgsRow, msgIn}
+use Rattle.msgs.specs.Rows.{msgsRow, msgsOf, msgIn}
+use Rattle.state.specs.With.{withMsgs}
 use Rattle.book.specs.declared.Found.{Found}
 use Rattle.book.specs.declared.Found.the-variants as found
 use Rattle.book.specs.declared.MsgKind.{MsgKind}
@@ -27,6 +28,8 @@ use Rattle.msgs.specs.declared.Msgs.{Msgs}
 use Rattle.orders.specs.declared.MaybeOrder.{MaybeOrder}
 use Rattle.orders.specs.declared.MaybeOrder.the-variants as maybe
 use Rattle.orders.specs.declared.Orders.{Orders}
+use Rattle.state.specs.declared.KernelState.{KernelState}
+use Rattle.rules.specs.Messages.{removeExpiry}
 use Rattle.deeds.specs.Deeds.{orderFound, orderPending, activated}
 use Rattle.deeds.specs.declared.OrderAt.the-variants as place
 
@@ -85,3 +88,13 @@ module _ (id : ℕ) (l : Msgs) (at : Found) (e : place at ≡ foundIn (isActivat
 
       pub pending-at : (o : VenueOrder) (life : ℕ) → m .kind ≡ Activate o life → place.At i o ≡ orderPending (foundIn (isActivation id) (live 16 (msgsRow l))) (l .slots)
       pending-at o life t = rw (← e, h) (ap (place.At i) (sym (ap activated t) ∙ ap (λ (x : VenueMsg). activated (x .kind)) msg-is))
+
+-- ---- an order's expiry
+module _ (id : ℕ) (l : Msgs) (at : Found) (e : place at ≡ foundIn (isExpiry id) (live 16 (msgsRow l))) where
+  pub expiry-stays : at ≡ found.None → (s : KernelState) → withMsgs s l ≡ removeExpiry id (withMsgs s l)
+  unfolding removeExpiry onSome
+  expiry-stays h s = rw (← e, h)
+
+  pub expiry-goes : (i : ℕ) → at ≡ found.At i → (s : KernelState) → withMsgs s (msgsOf (takeAt 16 blankMsg i (msgsRow l) .list)) ≡ removeExpiry id (withMsgs s l)
+  unfolding removeExpiry onSome
+  expiry-goes i h s = rw (← e, h)

@@ -2,7 +2,6 @@
 use book::Delivery;
 use book::ExecKind;
 use book::FillRec;
-use book::Found;
 use book::MaybeFill;
 use book::OrderState;
 use book::ReportRec;
@@ -12,6 +11,7 @@ use book::config::FillMode;
 use book::config::KernelTick;
 use fill::fill_lots;
 use fill::matches;
+use messages::remove_expiry;
 use models::gate;
 use models::gate::Gated;
 use msgs::Msgs;
@@ -39,10 +39,9 @@ ghost use Rattle.book.specs.Capacities.{ordersCapacity, deliveriesCapacity};
 ghost use Rattle.book.specs.Entries.{blankOrder, remaining};
 ghost use Rattle.orders.specs.Rows.{ordersRow};
 ghost use Rattle.state.specs.declared.KernelState.{KernelState};
-ghost use Rattle.state.specs.With.{withOrders, withMsgs};
+ghost use Rattle.state.specs.With.{withOrders};
 ghost use Rattle.rules.specs.Run.{haltAt};
 ghost use Rattle.rules.specs.Report.{reportAt};
-ghost use Rattle.rules.specs.Messages.{removeExpiry};
 ghost use Rattle.rules.specs.Matching.{filledBy, recordAt, fillKind, fillEvent, fillAt, fillsOf, leave, terminalAt, sweepFrom};
 ghost use Rattle.reports.specs.Log.{logAt, expected, actual};
 ghost use Rattle.reports.specs.Report.{withVenue};
@@ -292,18 +291,6 @@ fn terminal_at(orders: Orders, index: usize) -> bool
     };
     let state = order.state;
     state.is_terminal()
-}
-
-// The messages without the first expiry of the order.
-fn remove_expiry(id: u64, msgs: Msgs) -> Msgs
-    ensures { λ r. ⌜ ((s : KernelState) → withMsgs s r ≡ removeExpiry id (withMsgs s msgs)) ⌝ }
-{
-    let found = msgs.expiry(id);
-    let Found::At(index) = found else {
-        return msgs;
-    };
-    let taken = msgs.remove(index);
-    taken.list
 }
 
 // The order at a place leaves, with its expiry, to awaiting if a cancel is in flight.

@@ -5,6 +5,7 @@ use deeds::Expiry;
 use deeds::MsgEdit;
 use deeds::OrderEdit;
 use deeds::deed_of;
+use deeds::expiry_edit;
 use deeds::expiry_of;
 use deeds::halted;
 use deeds::ran;
@@ -16,7 +17,8 @@ use reports::Venue;
 use reports::report::Told;
 ghost use mathlib.Core.Path.{_≡_};
 ghost use Rattle.state.specs.declared.KernelState.{KernelState};
-ghost use Rattle.rules.specs.Messages.{applyNextMsg};
+ghost use Rattle.state.specs.With.{withMsgs};
+ghost use Rattle.rules.specs.Messages.{removeExpiry, applyNextMsg};
 ghost use Rattle.reports.specs.Log.{logAt, expected, actual};
 ghost use Rattle.reports.specs.Report.{withVenue};
 ghost use Rattle.deeds.specs.Deeds.{editOrders, editAwaiting, editMsgs, withLists};
@@ -139,4 +141,12 @@ pub fn act(
     let m = edit_msgs(me, rest);
     let a = edit_awaiting(ae, awaiting);
     done(told, o, m, a)
+}
+
+// The messages without the first expiry of the order.
+pub fn remove_expiry(id: u64, msgs: Msgs) -> Msgs
+    ensures { λ r. ⌜ ((s : KernelState) → withMsgs s r ≡ removeExpiry id (withMsgs s msgs)) ⌝ }
+{
+    let edit = expiry_edit(id, msgs);
+    edit_msgs(edit, msgs)
 }

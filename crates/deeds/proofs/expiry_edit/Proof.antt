@@ -1,5 +1,5 @@
 -- `deeds::expiry_edit` meets its contract. Assumes nothing.
-use Rattle.reports.proofs.Expiry.{expiry-stays, expiry-goes}
+use Rattle.deeds.proofs.PlaceExits.{expiry-stays, expiry-goes}
 use borrow.Author.Needs.{needs}
 use Rattle.deeds.proofs.expiry_edit.Statement.{statement}
 use Rattle.deeds.proofs.expiry_edit.Tie as tie

@@ -96,7 +96,7 @@ pub fn run(cfg: Config, rows: &[u64], state: KernelState, log: &mut [u64], passe
     let mut outcome = Outcome::Ran;
     'phases: loop {
         let Outcome::Ran = outcome else {
-            break;
+            break 'phases;
         };
         let job = job_of(control, rows);
         match job {
@@ -127,13 +127,13 @@ pub fn run(cfg: Config, rows: &[u64], state: KernelState, log: &mut [u64], passe
             Job::First => {}
             Job::Row(work, index, row) => {
                 // The walk: every event up to the row's time, while each runs to its end.
-                loop {
+                outcome = loop {
                     let Outcome::Ran = outcome else {
-                        continue 'phases;
+                        break outcome;
                     };
                     let next = next_of(row.ts_ns, msgs, deliveries, observed);
                     let Next::At(class, time) = next else {
-                        break;
+                        break outcome;
                     };
                     let now_ns = max(time, v.clock.now_ns);
                     v.clock.now_ns = now_ns;
@@ -185,7 +185,10 @@ pub fn run(cfg: Config, rows: &[u64], state: KernelState, log: &mut [u64], passe
                             continue 'phases;
                         }
                     }
-                }
+                };
+                let Outcome::Ran = outcome else {
+                    continue 'phases;
+                };
                 match work {
                     Work::Settle => {
                         let sum = checked_add(row.bid, row.ask);

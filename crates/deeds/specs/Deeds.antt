@@ -51,14 +51,16 @@ abbrev pub countsOf : KernelState → Counts
 countsOf s = record { orders = s .orders .count; msgs = s .msgs .count; awaiting = s .awaiting .count; deliveries = s .deliveries .count }
 
 -- ---- what is told
-abbrev pub ranWith : Venue → ℕ → Told
-ranWith v n = record { outcome = Ran; venue = v; sent = delivery.None; raised = n }
-
-abbrev pub haltWith : HaltReason → Venue → ℕ → Told
-haltWith h v n = record { outcome = Halt h; venue = v; sent = delivery.None; raised = n }
-
+-- nothing is sent: how the step went, the venue, and the events raised so far
 abbrev pub onlyWith : Outcome → Venue → ℕ → Told
 onlyWith o v n = record { outcome = o; venue = v; sent = delivery.None; raised = n }
+
+-- the same of a step that ran, and of one that halted
+abbrev pub ranWith : Venue → ℕ → Told
+ranWith v n = onlyWith Ran v n
+
+abbrev pub haltWith : HaltReason → Venue → ℕ → Told
+haltWith h v n = onlyWith (Halt h) v n
 
 -- all that was told, and then a full list or number
 abbrev pub thenFull : Told → Told
@@ -71,6 +73,7 @@ keepOrders t = record { told = t; edit = order.Keep }
 abbrev pub keepMsgs : Told → MsgStep
 keepMsgs t = record { told = t; edit = msg.Keep }
 
+-- what was told, and what becomes of the booked orders, the messages and those that await
 abbrev pub deedBy : Told → OrderEdit → MsgEdit → OrderEdit → Deed
 deedBy t o m a = record { told = t; orders = o; msgs = m; awaiting = a }
 

@@ -25,7 +25,7 @@ use Rattle.entry.proofs.EntryExits.{pass-waits}
 use Rattle.text.specs.Bytes.{bytes}
 use Rattle.logline.specs.Record.{eventLine}
 use Rattle.lines.specs.Print.{printed, recordsOf, callText, filledQty, filledFrom, filledAfter}
-use Rattle.day.specs.Replay.{emptyLog, goesOn, passedOn, lastOf, runFrom}
+use Rattle.day.specs.Replay.{emptyLog, hasMore, passedOn, lastOf, turnsFrom}
 
 -- ---- the lines of events and the sum of their fill reports, whatever log they stand in
 linesOf : List KernelEvent → List ℕ
@@ -150,8 +150,8 @@ module _ (s : KernelState) (h : batch.isStay (pass s .did) ≡ true) where
       go AwaitDecision g = refl
       go Terminal g = let z : _≡_ {A = ℕ} 0 1 = cc (sym h ∙ g refl) in absurd (omega arith)
 
-  goes : goesOn s ≡ true
-  unfolding goesOn pick
+  goes : hasMore s ≡ true
+  unfolding hasMore pick
   goes = rw (not-over, stay-zero (pass s .did) h)
 
   onward : passedOn s ≡ pass s .state
@@ -162,11 +162,11 @@ module _ (s : KernelState) (h : batch.isStay (pass s .did) ≡ true) where
 module _ (c : Config) (rows : List ℕ) where
   -- what n turns behind a call print
   abbrev pub after : ℕ → KernelState → ℕ → List ℕ
-  after n s sum = pick (goesOn s) (runFrom n c rows (passedOn s) sum) (lastOf (passedOn s) sum)
+  after n s sum = pick (hasMore s) (turnsFrom n c rows (passedOn s) sum) (lastOf (passedOn s) sum)
 
   one-turn : (n : ℕ) (s : KernelState) (sum : ℕ)
-      → runFrom (suc n) c rows s sum ≡ callLines (advance c rows s .events) ++ after n (advance c rows s .state) (sumOf sum (take (shown (advance c rows s .events)) (advance c rows s .events)))
-  unfolding runFrom linesOf sumOf
+      → turnsFrom (suc n) c rows s sum ≡ callLines (advance c rows s .events) ++ after n (advance c rows s .state) (sumOf sum (take (shown (advance c rows s .events)) (advance c rows s .events)))
+  unfolding turnsFrom linesOf sumOf
   one-turn n s sum =
       let es : List KernelEvent = advance c rows s .events in
       let room : 0 + 512 ≤ length emptyLog / 12 = omega arith in
@@ -179,7 +179,7 @@ module _ (c : Config) (rows : List ℕ) where
     printedBy n r = callText (r .log) (r .count) (r .last) ++ after n (r .state) (filledAfter sum (r .log) (r .count) (r .last))
 
     abbrev Same : List KernelEvent → KernelState → batch.Batch → Type 0
-    Same es s b = (turns : ℕ) × ((n : ℕ) → printedBy n (batch.returnedRun log b) ≡ linesOf es ++ runFrom (suc (turns + n)) c rows s (sumOf sum es))
+    Same es s b = (turns : ℕ) × ((n : ℕ) → printedBy n (batch.returnedRun log b) ≡ linesOf es ++ turnsFrom (suc (turns + n)) c rows s (sumOf sum es))
 
     -- the last call of a batch is a turn
     last-turn : (es : List KernelEvent) (s : KernelState) → length es ≤ 511 → Same es s (batch.ending es (advance c rows s))
@@ -224,6 +224,6 @@ module _ (c : Config) (rows : List ℕ) where
         (λ _. last-turn es s h)
 
     -- a whole batch
-    pub whole-batch : (k : ℕ) (s : KernelState) → (turns : ℕ) × ((n : ℕ) → printedBy n (batch.returnedRun log (batch.run c rows (length log / 12) k s)) ≡ runFrom (suc (turns + n)) c rows s sum)
+    pub whole-batch : (k : ℕ) (s : KernelState) → (turns : ℕ) × ((n : ℕ) → printedBy n (batch.returnedRun log (batch.run c rows (length log / 12) k s)) ≡ turnsFrom (suc (turns + n)) c rows s sum)
     unfolding linesOf sumOf
     whole-batch k s = batch-turns k [] s (omega arith)

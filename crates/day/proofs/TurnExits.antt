@@ -21,7 +21,7 @@ use Rattle.kernel.specs.declared.Passed.{Passed}
 use Rattle.write.specs.Write.{Text, textAt, texted}
 use Rattle.lines.specs.Print.{callText, filledAfter}
 use Rattle.lines.proofs.Whole.{Words, printed-whole}
-use Rattle.day.specs.Replay.{goesOn, passedOn}
+use Rattle.day.specs.Replay.{hasMore, passedOn}
 use Rattle.day.specs.Day.{TurnsResult, batchPasses, turned, actualTurns, PrintsTurns}
 use Rattle.day.specs.declared.Turned.{Turned}
 use Rattle.day.proofs.Batches.{printedBy, whole-batch}
@@ -33,10 +33,10 @@ module _ (c : Config) (rows : List ℕ) (s : KernelState) (filled : ℕ) (log ou
     (m : ℕ) (h : m ≡ filledAfter filled w (a .events) (a .last)) where
   -- what is left, by the state that the batch left and what it raised
   whole : turned c rows s filled log out
-      ≡ record { more = goesOn (a .state); state = passedOn (a .state); filled = m; log = w; text = textAt v n }
+      ≡ record { more = hasMore (a .state); state = passedOn (a .state); filled = m; log = w; text = textAt v n }
   unfolding turned
   whole =
-      ap (λ (b : BatchResult). record { more = goesOn (b .state); state = passedOn (b .state); filled = filledAfter filled (b .log) (b .count) (b .last); log = b .log; text = texted (textAt out 0) (callText (b .log) (b .count) (b .last)) }) (sym e)
+      ap (λ (b : BatchResult). record { more = hasMore (b .state); state = passedOn (b .state); filled = filledAfter filled (b .log) (b .count) (b .last); log = b .log; text = texted (textAt out 0) (callText (b .log) (b .count) (b .last)) }) (sym e)
       ∙ rw (h, g)
 
   -- t has what is left
@@ -50,7 +50,7 @@ module _ (c : Config) (rows : List ℕ) (s : KernelState) (filled : ℕ) (log ou
         = g ∙ printed-whole w (a .events) (a .last) words out r in
         let p : take n v ≡ callText w (a .events) (a .last)
         = rw (ap (λ (x : Text). x .next) z, ap (λ (x : Text). x .bytes) z) (take-append-seam (callText w (a .events) (a .last)) (drop (length (callText w (a .events) (a .last))) out)) in
-        let o : actualTurns t w v ≡ record { more = goesOn (a .state); state = passedOn (a .state); filled = m; log = w; text = textAt v n } = i ∙ whole in
+        let o : actualTurns t w v ≡ record { more = hasMore (a .state); state = passedOn (a .state); filled = m; log = w; text = textAt v n } = i ∙ whole in
         let b = whole-batch c rows log few filled batchPasses s in (
           b .0,
           λ k. rw
@@ -61,10 +61,10 @@ module _ (c : Config) (rows : List ℕ) (s : KernelState) (filled : ℕ) (log ou
   -- k: whether the run has ended
   module _ (k : Bool) (i : k ≡ isTerminalPhase (a .state .control .phase)) where
     pub ends : k ≡ true → actualTurns (record { more = false; state = a .state; filled = m; length = n }) w v ≡ turned c rows s filled log out
-    unfolding goesOn passedOn pick
+    unfolding hasMore passedOn pick
     ends z = rw (whole, ← i, z)
 
     pub goes-on : k ≡ false → (p : Passed) → actualPass p ≡ calls.returned [] (calls.pass (a .state)) → (j : ℕ) → j ≡ answerNumber (p .answer)
         → actualTurns (record { more = eqb j 0; state = p .state; filled = m; length = n }) w v ≡ turned c rows s filled log out
-    unfolding goesOn passedOn pick
+    unfolding hasMore passedOn pick
     goes-on z p q j r = rw (whole, ← i, z, r, ap (λ (x : calls.Result). x .answer) q, ap (λ (x : calls.Result). x .state) q)

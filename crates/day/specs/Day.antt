@@ -10,7 +10,7 @@ use Rattle.state.specs.declared.KernelState.{KernelState}
 use Rattle.rules.specs.Batch.{BatchResult, run, returnedRun}
 use Rattle.write.specs.Write.{Text, textAt, texted}
 use Rattle.lines.specs.Print.{callText, filledAfter}
-use Rattle.day.specs.Replay.{goesOn, passedOn, lastOf, runFrom}
+use Rattle.day.specs.Replay.{hasMore, passedOn, lastOf, turnsFrom}
 use Rattle.day.specs.declared.Turned.{Turned}
 
 -- what turns leave: whether the run goes on, the state, the sum of the printed fill reports, the log, and the text of what they print
@@ -30,7 +30,7 @@ unfoldable pub turned : Config → List ℕ → KernelState → ℕ → List ℕ
 turned c rows s filled log out =
     let b : BatchResult = returnedRun log (run c rows (length log / 12) batchPasses s) in
     record {
-      more = goesOn (b .state);
+      more = hasMore (b .state);
       state = passedOn (b .state);
       filled = filledAfter filled (b .log) (b .count) (b .last);
       log = b .log;
@@ -44,4 +44,4 @@ actualTurns t log out = record { more = t .more; state = t .state; filled = t .f
 -- the batch stands for one turn of document 01 or more: what it printed, and what n turns behind it print, is what they print together
 abbrev pub PrintsTurns : Config → List ℕ → KernelState → ℕ → Turned → List ℕ → Type 0
 PrintsTurns c rows s filled t out =
-    (turns : ℕ) × ((n : ℕ) → take (t .length) out ++ pick (t .more) (runFrom n c rows (t .state) (t .filled)) (lastOf (t .state) (t .filled)) ≡ runFrom (suc (turns + n)) c rows s filled)
+    (turns : ℕ) × ((n : ℕ) → take (t .length) out ++ pick (t .more) (turnsFrom n c rows (t .state) (t .filled)) (lastOf (t .state) (t .filled)) ≡ turnsFrom (suc (turns + n)) c rows s filled)

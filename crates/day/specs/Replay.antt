@@ -19,8 +19,8 @@ abbrev pub emptyLog : List ℕ
 emptyLog = replicate 6144 0
 
 -- "until Terminal": whether the run goes on behind a call that left s. It ends at Terminal, and where the pass is refused
-unfoldable pub goesOn : KernelState → Bool
-goesOn s = pick (isTerminalPhase (s .control .phase)) false (eqb (calls.refusalOf (calls.pass s .did)) 0)
+unfoldable pub hasMore : KernelState → Bool
+hasMore s = pick (isTerminalPhase (s .control .phase)) false (eqb (calls.refusalOf (calls.pass s .did)) 0)
 
 -- the state behind that call, passed unless it is Terminal
 unfoldable pub passedOn : KernelState → KernelState
@@ -31,12 +31,12 @@ abbrev pub lastOf : KernelState → ℕ → List ℕ
 lastOf s filled = lastLine (s .gate .«venue_pos» .lots) (s .gate .«live_buy_lots») (s .gate .«live_sell_lots») filled
 
 -- "It advances and passes until Terminal": the events of each advance are printed, one line each, then the last line. At most so many turns: from step 0 a run has at most 2^64, and of 512 rows at most 513, since each turn but the last pauses at a row's observation
-unfoldable pub runFrom : ℕ → Config → List ℕ → KernelState → ℕ → List ℕ
-runFrom zero c rows s filled = lastOf s filled
-runFrom (suc n) c rows s filled =
+unfoldable pub turnsFrom : ℕ → Config → List ℕ → KernelState → ℕ → List ℕ
+turnsFrom zero c rows s filled = lastOf s filled
+turnsFrom (suc n) c rows s filled =
     let a : calls.Result = calls.returned emptyLog (calls.advance c rows s) in
     let sum : ℕ = filledAfter filled (a .log) (a .count) (a .count) in
-    callText (a .log) (a .count) (a .count) ++ pick (goesOn (a .state)) (runFrom n c rows (passedOn (a .state)) sum) (lastOf (passedOn (a .state)) sum)
+    callText (a .log) (a .count) (a .count) ++ pick (hasMore (a .state)) (turnsFrom n c rows (passedOn (a .state)) sum) (lastOf (passedOn (a .state)) sum)
 
 -- "prints `bad N` .. and nothing else"
 unfoldable pub unlessBad : MaybeU64 → List ℕ → List ℕ
@@ -47,4 +47,4 @@ unlessBad (Some n) run = badLine n
 unfoldable pub replayed : ℕ → List ℕ → List ℕ
 replayed turns text =
     let r : Read = readText text (replicate 2560 0) in
-    unlessBad (r .script .bad) (runFrom turns (r .script .cfg) (take (r .script .rows * 5) (r .words)) (r .script .state) 0)
+    unlessBad (r .script .bad) (turnsFrom turns (r .script .cfg) (take (r .script .rows * 5) (r .words)) (r .script .state) 0)

@@ -694,6 +694,7 @@ fn cancel(
 
 // ---- an expiry
 
+// Apart from the release: an event beside what is told, among the locals of one function, is dear to prove.
 fn emit_expired(log: &mut [u64], raised: u64, order_id: u64, at_ns: u64) -> u64
     ensures { λ r. ⌜ logAt (now (log .exit)) r ≡ appendEvent (logAt (now (log .entry)) raised) (Expired «order_id» «at_ns») ⌝ }
 {

@@ -35,7 +35,7 @@ fn put_from(out: &mut [u8], at: usize, row: &[u8], from: usize, n: usize) -> usi
     put_bytes(out, at, &row[from..end])
 }
 
-// The name of an event, by its kind: of at most 9 bytes, in every 10.
+// The name of an event, by its kind: of at most 9 bytes, in every 10. Its length is at hand: to look for the space behind it costs more than to write it.
 fn put_name(out: &mut [u8], at: usize, kind: u64) -> usize
     ensures { λ r. ⌜ textAt (now (out .exit)) r ≡ texted (textAt (now (out .entry)) at) (eventName kind) ⌝ }
 {

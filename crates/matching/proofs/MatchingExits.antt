@@ -2,7 +2,6 @@
 use Prim.Native.Nat.{ℕ, suc, _+_, _*_, _%_, _^_, _≤_, _<_}
 use mathlib.Core.Bool.{Bool, true, false}
 use mathlib.Core.List.{List}
-use mathlib.Core.Logic.{⊎-elim}
 use mathlib.Core.Option.{none, some}
 use mathlib.Core.Path.{_≡_, refl, sym, _∙_, subst}
 use native.Mathlib.Nat.{mod-eq-of-lt}
@@ -64,7 +63,7 @@ use Rattle.reports.specs.declared.Venue.{Venue}
 use Rattle.reports.specs.declared.report.Reported.{Reported}
 use Rattle.reports.specs.declared.report.Stamped.{Stamped}
 use Rattle.reports.proofs.ReportExits.{reportedBy, tell-stop, tell-full, tell-in}
-use Rattle.reports.proofs.Then.{expected-ran, Stopped, then-ran, then-stop, then-on, state-is, ran-too, Stamps, stamp-stop, stamp-on, fits-none, fits-some}
+use Rattle.reports.proofs.Then.{expected-ran, Stopped, not-ran, then-ran, then-stop, then-on, state-is, ran-too, Stamps, stamp-stop, stamp-on, fits-none, fits-some}
 use Rattle.matching.specs.Matching.{filledIn, fillDelivery, joined, filledOrderIn, looksAt, anyTerminal, withSwept, sweptIn}
 use Rattle.matching.specs.declared.Filled.{Filled}
 use Rattle.matching.specs.declared.FilledOrder.{FilledOrder}
@@ -174,13 +173,10 @@ store-same {A} cap d i r v e =
 
 -- nothing joins where the fill stopped
 pub joined-stop : (o : Outcome) → Stopped o → (d : Delivery) (l : Deliveries) → joined o d l ≡ l
-joined-stop Ran m d l = absurd (⊎-elim (λ z. omega arith) (λ y. ⊎-elim (λ z. omega arith) (λ z. omega arith) y) m)
+joined-stop Ran m d l = not-ran Ran m refl
 joined-stop Left m d l = refl
 joined-stop (Halt h) m d l = refl
 joined-stop Ended m d l = refl
-
-not-ran : (o : Outcome) → Stopped o → o ≡ Ran → ⊥
-not-ran o m e = ⊎-elim (λ z. omega arith) (λ y. ⊎-elim (λ z. omega arith) (λ z. omega arith) y) (subst Stopped e m)
 
 -- a step that ran has what the rules keep
 kept-on : (P : KernelState → Type 0) (l : Log) (r : rules.Run) (b : Step) (w : List ℕ) → actual b w ≡ expected l r → b .outcome ≡ Ran → Kept (λ _. Unit {0}) (λ _ _. Unit {0}) P r → P (b .state)
@@ -217,7 +213,7 @@ module _ (w w1 : List ℕ) (raised : ℕ) (cfg : Config) (o : VenueOrder) (n : �
   order-unfilled m = (
     λ s i k e z. rw (store-same 8 blankOrder i (ordersRow (s .orders)) o e, joined-stop (a .outcome) m (fillDelivery (a .venue .clock) (v .seqs) o n) (s .deliveries))
         (then-stop (logAt w raised) _ (reporting cfg i o n (withVenue s v)) (filledIn s a) w1 (ea s) m),
-    λ h. absurd (not-ran (a .outcome) m h),
+    λ h. not-ran (a .outcome) m h,
   )
 
   -- the fill ran: b is what its report left
@@ -241,7 +237,7 @@ module _ (w w1 : List ℕ) (raised : ℕ) (cfg : Config) (o : VenueOrder) (n : �
     order-unreported m = (
       λ s i q e z. reports s i z (rw (joined-stop (b .outcome) m (fillDelivery (b .clock) (v .seqs) o n) (s .deliveries))
           (tell-stop w1 w2 (a .raised) cfg report (fill.Some record-of) (a .venue) waiting b eb m (stored i s) q)),
-      λ h. absurd (not-ran (b .outcome) m h),
+      λ h. not-ran (b .outcome) m h,
     )
 
     module _ (l : b .outcome ≡ Ran) where

@@ -4,7 +4,7 @@ use mathlib.Core.Bool.{false, _&&_}
 use mathlib.Core.List.{List, [], _∷_}
 use mathlib.Core.Option.{Option, some}
 use mathlib.Core.Logic.{⊎-elim, inl, inr}
-use mathlib.Core.Path.{_≡_, refl, sym, ap, _∙_, subst}
+use mathlib.Core.Path.{_≡_, refl, sym, ap, _∙_}
 use native.Mathlib.Omega.{arith}
 use lib.Dec.{ltb, leb}
 use lib.ListN.{length, getD, set}
@@ -60,7 +60,7 @@ use Rattle.turns.specs.Turns.{Final, finally, finalOf, afterCall}
 use Rattle.turns.proofs.After.{after-still, after-halt, after-last, after-again, after-left}
 use Rattle.reports.specs.declared.Step.{Step}
 use Rattle.reports.specs.declared.Venue.{Venue}
-use Rattle.reports.proofs.Then.{Stopped, state-is, expected-halt, then-then, then-ran, then-stop}
+use Rattle.reports.proofs.Then.{Stopped, not-ran, state-is, expected-halt, then-then, then-ran, then-stop}
 use Rattle.entry.specs.Entry.{againAs}
 use Rattle.entry.specs.declared.Again.{Again}
 use Rattle.entry.specs.declared.Again.the-variants.{Stop, With}
@@ -341,7 +341,7 @@ module _ (log : List ℕ) (n i : ℕ) (cfg : Config) (row : KernelTick) (c : Con
       ∙ e (stateOf c v o m aw d b g a) i n log refl
 
   queued-stop : (x : Outcome) → Stopped x → queuedOn x (record { «ready_ns» = r .venue .clock .«last_observed_ns»; row = i }) b ≡ b
-  queued-stop Ran h = absurd (⊎-elim (λ z. omega arith) (λ y. ⊎-elim (λ z. omega arith) (λ z. omega arith) y) h)
+  queued-stop Ran h = not-ran Ran h refl
   queued-stop Left h = refl
   queued-stop (Halt z) h = refl
   queued-stop Ended h = refl
@@ -371,11 +371,7 @@ pub sweep-none : (l : Log) (s : KernelState) (f : KernelState → rules.Run) →
 unfolding rules.andThen
 sweep-none l s f h = rw (none-terminal s h)
 
--- ---- a step that ran, or one that stopped
-pub stopped-not : {A : Type 0} (o : Outcome) → Stopped o → o ≡ Ran → A
-stopped-not o r e = absurd (⊎-elim (λ z. omega arith) (λ y. ⊎-elim (λ z. omega arith) (λ z. omega arith) y) (subst Stopped e r))
-
--- what it gives: what comes behind it, or the stop itself
+-- ---- a step that ran, or one that stopped: what comes behind it, or the stop itself
 unfoldable pub stepsOn : Outcome → Log → KernelState → (KernelState → rules.Run) → StepResult
 stepsOn Ran l s f = expected l (f s)
 stepsOn Left l s f = record { outcome = Left; state = s; log = l }
@@ -388,7 +384,7 @@ steps-ran o h l s f = rw h
 
 pub steps-stop : (o : Outcome) → Stopped o → (l : Log) (s : KernelState) (f : KernelState → rules.Run) → record { outcome = o; state = s; log = l } ≡ stepsOn o l s f
 unfolding stepsOn
-steps-stop Ran r l s f = absurd (⊎-elim (λ z. omega arith) (λ y. ⊎-elim (λ z. omega arith) (λ z. omega arith) y) r)
+steps-stop Ran r l s f = not-ran Ran r refl
 steps-stop Left r l s f = refl
 steps-stop (Halt h) r l s f = refl
 steps-stop Ended r l s f = refl
@@ -415,7 +411,7 @@ fuel-falls (Halt z) p x y h f = rw h (omega arith)
 fuel-falls Ended p x y h f = rw h (omega arith)
 
 pub fuel-stops : (o p : Outcome) (x y : ℕ) → p ≡ Ran → Stopped o → fuel o x < fuel p y
-fuel-stops o p x y h r = fuel-falls o p x y h (stopped-not o r)
+fuel-stops o p x y h r = fuel-falls o p x y h (not-ran o r)
 
 -- a turn of the walk
 module _ (cfg : Config) (until : ℕ) (s : KernelState) (x : Next) (e : ruleNext x ≡ nextOf until s) (w : List ℕ) (n : ℕ) (k : Class) (t : ℕ) (h : x ≡ At k t) (j : Class) (now : ℕ) (hj : k ≡ j) (m : now ≡ max t (s .clock .«now_ns»))
@@ -443,7 +439,7 @@ leaves-ran o h cfg rows records left b l s = rw h
 
 pub leaves-stop : (o : Outcome) → Stopped o → (cfg : Config) (rows : List ℕ) (records left b : ℕ) (l : Log) (s : KernelState) → leavesOn o cfg rows records left b l s ≡ finalOf b (record { outcome = o; state = s; log = l })
 unfolding leavesOn
-leaves-stop Ran r cfg rows records left b l s = absurd (⊎-elim (λ z. omega arith) (λ y. ⊎-elim (λ z. omega arith) (λ z. omega arith) y) r)
+leaves-stop Ran r cfg rows records left b l s = not-ran Ran r refl
 leaves-stop Left r cfg rows records left b l s = refl
 leaves-stop (Halt h) r cfg rows records left b l s = refl
 leaves-stop Ended r cfg rows records left b l s = refl

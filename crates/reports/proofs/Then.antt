@@ -61,9 +61,12 @@ after-ran l r k e = rw e (ap (λ (g : Log). record { outcome = outcomeOf (k (r .
 abbrev pub Stopped : Outcome → Type 0
 Stopped o = OneOf (1 ∷ 2 ∷ 3 ∷ []) (tagOf Rattle.reports.proofs.Outcome.the-type o)
 
+pub not-ran : {A : Type 0} (o : Outcome) → Stopped o → o ≡ Ran → A
+not-ran o m e = absurd (⊎-elim (λ z. omega arith) (λ y. ⊎-elim (λ z. omega arith) (λ z. omega arith) y) (subst Stopped e m))
+
 after-stop : (l : Log) (r : rules.Run) (k : KernelState → rules.Run) (o : rules.Outcome) → r .outcome ≡ o → Stopped (outcomeOf o) → rules.andThen r k ≡ r
 unfolding rules.andThen
-after-stop l r k rules.ran e m = absurd (⊎-elim (λ z. omega arith) (λ y. ⊎-elim (λ z. omega arith) (λ z. omega arith) y) m)
+after-stop l r k rules.ran e m = not-ran Ran m refl
 after-stop l r k rules.left e m = rw e
 after-stop l r k (rules.halt h) e m = rw e
 after-stop l r k (rules.ended ms) e m = rw e

@@ -30,7 +30,7 @@ use Rattle.reports.specs.Log.{Log, StepResult, logAt, expected}
 use Rattle.reports.specs.Report.{sentTo}
 use Rattle.reports.specs.declared.Outcome.{Outcome}
 use Rattle.reports.specs.declared.Outcome.the-variants.{Ran, Left, Halt}
-use Rattle.reports.proofs.Then.{Stopped, expected-halt}
+use Rattle.reports.proofs.Then.{Stopped, not-ran, expected-halt}
 use Rattle.entry.specs.Entry.{testedAs}
 use Rattle.entry.specs.declared.Answer.{Answer}
 use Rattle.entry.proofs.EntryExits.{tested-tells}
@@ -45,7 +45,7 @@ use Rattle.phases.specs.declared.Work.the-variants.{Settle}
 use Rattle.phases.proofs.PhasesExits.{Goes, behind, turn-of, work-of, phases-stop, phases-left, phases-on, phases-fall, again-not-paused, end-stops, onward-end, onward-to, settle-past, settle-is, match-past}
 use Rattle.parts.specs.Parts.{stateOf, clocked}
 use Rattle.parts.proofs.Long.{deliveries-whole, observed-whole}
-use Rattle.parts.proofs.Steps.{slot-in, slot-none, acted, delivered, looked, look-cursor, look-falls, pass-falls, swept, matched-is, place-past, place-fails, place-fills, place-stops, pass-done, filled-ran, filled-stops, queued-ran, queued-stops, walk-out, sweep-stops, sweep-goes, sweep-none, stopped-not, stepsOn, steps-ran, steps-stop, fuel, fuel-falls, fuel-stops, walk-steps, walk-spends, leavesOn, leaves-ran, leaves-stop, goes-on, ends-still, ends-halt, ends-last, passes-on, looks-on, met-in}
+use Rattle.parts.proofs.Steps.{slot-in, slot-none, acted, delivered, looked, look-cursor, look-falls, pass-falls, swept, matched-is, place-past, place-fails, place-fills, place-stops, pass-done, filled-ran, filled-stops, queued-ran, queued-stops, walk-out, sweep-stops, sweep-goes, sweep-none, stepsOn, steps-ran, steps-stop, fuel, fuel-falls, fuel-stops, walk-steps, walk-spends, leavesOn, leaves-ran, leaves-stop, goes-on, ends-still, ends-halt, ends-last, passes-on, looks-on, met-in}
 use Rattle.batch.specs.Batch.{actualRun}
 use borrow.Author.Needs.{needs}
 use Rattle.batch.proofs.run.Statement.{statement}
@@ -178,7 +178,7 @@ walked : (c : tie.After-enum-told14 Inv-loop2 μ-loop2 Inv-loop3 μ-loop3 Inv-lo
     let b3 = c .before .before .before in let b5 = b3 .before .before in let b10 = b5 .before .before .before .before .before in let b26 = b10 .before .before .before .before .before .before .before .before .before .before .before .before .before .before .before .before in Goes (logAt (b10 .phases .log) (b10 .phases .n)) (runEvents (b26 .args .cfg) (b5 .job .given .0 .1 .1 .0 .«ts_ns») (at-phases b10)) (at-loop b3) (logAt (b3 .loop .log) (b3 .loop .n))
 walked c =
     let b2 = c .before .before in let b3 = b2 .before in let b5 = b3 .before .before in let b26 = b5 .before .before .before .before .before .before .before .before .before .before .before .before .before .before .before .before .before .before .before .before .before in ⊎-elim
-    (λ w. stopped-not (b3 .loop .outcome) (w .0 .keys2) (sym (w .1) ∙ c .enum-told14 .given .1))
+    (λ w. not-ran (b3 .loop .outcome) (w .0 .keys2) (sym (w .1) ∙ c .enum-told14 .given .1))
     (λ w. let k : tie.After-enum-told8 Inv-loop2 μ-loop2 Inv-loop3 μ-loop3 Inv-loop μ-loop Inv-loop4 μ-loop4 Inv-phases μ-phases = record { before = record { before = b3; match5 = w .0 }; enum-told8 = w .1 } in
     λ f. walk-done-then (b26 .args .cfg) (b5 .job .given .0 .1 .1 .0 .«ts_ns») (at-loop b3) (w .2 .result) (w .2 .ensures (at-loop b3)) (b3 .loop .log) (b3 .loop .n) (w .4 .given .1) f ∙ walk-goes k f)
     (b2 .match5 .came)
@@ -416,7 +416,7 @@ phases-less-13 c =
 
 phases-again-13 : tie.Need-phases-again-13 Inv-loop2 μ-loop2 Inv-loop3 μ-loop3 Inv-loop μ-loop Inv-loop4 μ-loop4 Inv-phases μ-phases
 phases-again-13 c =
-    let b9 = c .before .before .before .before .before .before .before .before .before in let b11 = b9 .before .before in let b13 = b11 .before .before in let b14 = b13 .before in let b16 = b14 .before .before in let b18 = b16 .before .before in let b34 = b18 .before .before .before .before .before .before .before .before .before .before .before .before .before .before .before .before in (ends-at b16 _ _ _ (phases-left (b34 .args .cfg) (now (b34 .args .rows)) (at-phases b18) _ (joined-turn b14 .1) (logAt (b18 .phases .log) (b18 .phases .n)) (onward-end (logAt (b14 .match3 .log) (b14 .match3 .n)) (b34 .args .cfg) (now (b34 .args .rows)) (stateOf (b14 .match3 .control) (b14 .match3 .v) (b14 .match3 .orders) (b14 .match3 .msgs) (b14 .match3 .awaiting) (b14 .match3 .deliveries) (b14 .match3 .observed) (b14 .match3 .agent) (b14 .match3 .account)) (b13 .next-row .result) (b13 .next-row .ensures (stateOf (b14 .match3 .control) (b14 .match3 .v) (b14 .match3 .orders) (b14 .match3 .msgs) (b14 .match3 .awaiting) (b14 .match3 .deliveries) (b14 .match3 .observed) (b14 .match3 .agent) (b14 .match3 .account))) (b11 .enum-told25 .given .1) (b9 .end-of-data .ensures .0 (stateOf (b14 .match3 .control) (b14 .match3 .v) (b14 .match3 .orders) (b14 .match3 .msgs) (b14 .match3 .awaiting) (b14 .match3 .deliveries) (b14 .match3 .observed) (b14 .match3 .agent) (b14 .match3 .account))) ∙ joined-turn b14 .2) (data-ends b9)) (data-ends b9) (b9 .end-of-data .ensures .1 (joined-turn b14 .6)), b9 .end-of-data .kept .0 ∙ joined-turn b14 .3 ∙ b18 .phases .inv .1, stopped-not (b9 .end-of-data .result .outcome) (data-ends b9))
+    let b9 = c .before .before .before .before .before .before .before .before .before in let b11 = b9 .before .before in let b13 = b11 .before .before in let b14 = b13 .before in let b16 = b14 .before .before in let b18 = b16 .before .before in let b34 = b18 .before .before .before .before .before .before .before .before .before .before .before .before .before .before .before .before in (ends-at b16 _ _ _ (phases-left (b34 .args .cfg) (now (b34 .args .rows)) (at-phases b18) _ (joined-turn b14 .1) (logAt (b18 .phases .log) (b18 .phases .n)) (onward-end (logAt (b14 .match3 .log) (b14 .match3 .n)) (b34 .args .cfg) (now (b34 .args .rows)) (stateOf (b14 .match3 .control) (b14 .match3 .v) (b14 .match3 .orders) (b14 .match3 .msgs) (b14 .match3 .awaiting) (b14 .match3 .deliveries) (b14 .match3 .observed) (b14 .match3 .agent) (b14 .match3 .account)) (b13 .next-row .result) (b13 .next-row .ensures (stateOf (b14 .match3 .control) (b14 .match3 .v) (b14 .match3 .orders) (b14 .match3 .msgs) (b14 .match3 .awaiting) (b14 .match3 .deliveries) (b14 .match3 .observed) (b14 .match3 .agent) (b14 .match3 .account))) (b11 .enum-told25 .given .1) (b9 .end-of-data .ensures .0 (stateOf (b14 .match3 .control) (b14 .match3 .v) (b14 .match3 .orders) (b14 .match3 .msgs) (b14 .match3 .awaiting) (b14 .match3 .deliveries) (b14 .match3 .observed) (b14 .match3 .agent) (b14 .match3 .account))) ∙ joined-turn b14 .2) (data-ends b9)) (data-ends b9) (b9 .end-of-data .ensures .1 (joined-turn b14 .6)), b9 .end-of-data .kept .0 ∙ joined-turn b14 .3 ∙ b18 .phases .inv .1, not-ran (b9 .end-of-data .result .outcome) (data-ends b9))
 
 -- the next row
 phases-less-14 : tie.Need-phases-less-14 Inv-loop2 μ-loop2 Inv-loop3 μ-loop3 Inv-loop μ-loop Inv-loop4 μ-loop4 Inv-phases μ-phases

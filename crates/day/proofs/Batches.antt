@@ -24,17 +24,17 @@ use Rattle.reports.proofs.Append.{twelve}
 use Rattle.entry.proofs.EntryExits.{pass-waits}
 use Rattle.text.specs.Bytes.{bytes}
 use Rattle.logline.specs.Record.{eventLine}
-use Rattle.lines.specs.Print.{printed, recordsOf, callText, filledQty, filledFrom, filledAfter}
+use Rattle.lines.specs.Print.{printed, recordsOf, callText, filledLots, filledFrom, filledAfter}
 use Rattle.day.specs.Replay.{emptyLog, hasMore, passedOn, lastOf, turnsFrom}
 
--- ---- the lines of events and the sum of their fill reports, whatever log they stand in
+-- ---- the lines of events and the lots that their reports fill, whatever log they stand in
 linesOf : List KernelEvent → List ℕ
 linesOf [] = []
 linesOf (e ∷ es) = eventLine (eventWords e) ++ linesOf es
 
 sumOf : ℕ → List KernelEvent → ℕ
 sumOf sum [] = sum
-sumOf sum (e ∷ es) = sumOf (min (sum + filledQty (eventWords e)) 18446744073709551615) es
+sumOf sum (e ∷ es) = sumOf (min (sum + filledLots (eventWords e)) 18446744073709551615) es
 
 lines-append : (xs ys : List KernelEvent) → linesOf (xs ++ ys) ≡ linesOf xs ++ linesOf ys
 unfolding linesOf
@@ -72,7 +72,7 @@ sum-is sum zero log es h k = refl
 sum-is sum (suc n) log [] h k = absurd (omega arith)
 sum-is sum (suc n) log (e ∷ es) h k =
     let r : 12 ≤ length log = omega arith in
-    rw (first-words log e es r, rest-words log e es r, sum-is (min (sum + filledQty (eventWords e)) 18446744073709551615) n (drop 12 log) es (omega arith) (omega (arith, length-drop 12 log)))
+    rw (first-words log e es r, rest-words log e es r, sum-is (min (sum + filledLots (eventWords e)) 18446744073709551615) n (drop 12 log) es (omega arith) (omega (arith, length-drop 12 log)))
 
 length-written : (log : List ℕ) (es : List KernelEvent) → length (written log es) ≡ length log
 unfolding written

@@ -1,3 +1,4 @@
 pub mod Batches
+pub mod Filled
 pub mod Sample
 pub mod TurnExits

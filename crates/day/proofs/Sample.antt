@@ -9,7 +9,7 @@ use Rattle.rules.proofs.Sample as rules
 use Rattle.text.specs.Bytes.{bytes}
 use Rattle.write.specs.Write.{digits, decimal, signed}
 use Rattle.logline.specs.Record.{all, kindName, reportLine, fillLine, shortLine, oneLine, lineOn, eventLine}
-use Rattle.lines.specs.Print.{printed, callText, filledQty, filledFrom, filledAfter, lastLine, badLine}
+use Rattle.lines.specs.Print.{printed, callText, filledLots, filledFrom, filledAfter, lastLine, badLine}
 use Rattle.runtext.specs.Read.{readText}
 use Rattle.runtext.proofs.Examples as runtext
 use Rattle.day.specs.Replay.{hasMore, passedOn, turnsFrom, unlessBad, replayed}
@@ -18,7 +18,7 @@ use Rattle.day.specs.Replay.{hasMore, passedOn, turnsFrom, unlessBad, re
 pub sample : (n : ℕ) → replayed (suc (suc n)) (bytes "c 1000 0 1 0 7 9\nf now\no 10 1 B 101 5 0\nr 20 99 4 101 6\n")
     ≡ bytes "report 10 0 1 accepted 0\nfill 20 0 1 5 101\nreport 20 1 1 fill 5\nobserved 0 20\nrowend 0 20\ndelivered 10 0 1 accepted 0\ndelivered 20 1 1 fill 5\neod 0 0\nposition 5 live 0 0 filled 5\n"
 unfolding unlessBad replayed
-sample n = rw runtext.sample (unfold rules.third eventWords written digits decimal signed all kindName reportLine fillLine shortLine oneLine lineOn eventLine printed callText filledQty filledFrom filledAfter lastLine hasMore passedOn turnsFrom in refl)
+sample n = rw runtext.sample (unfold rules.third eventWords written digits decimal signed all kindName reportLine fillLine shortLine oneLine lineOn eventLine printed callText filledLots filledFrom filledAfter lastLine hasMore passedOn turnsFrom in refl)
 
 -- "The first bad line .. prints `bad N` .. and nothing else."
 pub bad-line : (n line : ℕ) (text : List ℕ) → readText text (replicate 2560 0) .script .bad ≡ Some line → replayed n text ≡ badLine line

@@ -26,7 +26,7 @@ use Rattle.day.specs.Day.{TurnsResult, batchPasses, turned, actualTurns,
 use Rattle.day.specs.declared.Turned.{Turned}
 use Rattle.day.proofs.Batches.{printedBy, whole-batch}
 
--- a is what `run` gave, w the log that it left, v and n the text of its lines, m the filled sum
+-- a is what `run` gave, w the log that it left, v and n the text of its lines, m the lots filled
 module _ (c : Config) (rows : List ℕ) (s : KernelState) (filled : ℕ) (log out : List ℕ)
     (a : Advanced) (w : List ℕ) (e : actualRun a w ≡ returnedRun log (run c rows (length log / 12) batchPasses s))
     (v : List ℕ) (n : ℕ) (g : textAt v n ≡ texted (textAt out 0) (callText w (a .events) (a .last)))

@@ -13,7 +13,7 @@ use Rattle.lines.specs.Print.{callText, filledAfter}
 use Rattle.day.specs.Replay.{hasMore, passedOn, lastOf, turnsFrom}
 use Rattle.day.specs.declared.Turned.{Turned}
 
--- what turns leave: whether the run goes on, the state, the sum of the printed fill reports, the log, and the text of what they print
+-- what turns leave: whether the run goes on, the state, the lots filled so far, the log, and the text of what they print
 pub record TurnsResult : Type 0 where
   pub more : Bool
   pub state : KernelState

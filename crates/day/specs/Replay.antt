@@ -26,7 +26,7 @@ hasMore s = pick (isTerminalPhase (s .control .phase)) false (eqb (calls.refusal
 unfoldable pub passedOn : KernelState → KernelState
 passedOn s = pick (isTerminalPhase (s .control .phase)) s (calls.pass s .state)
 
--- "Last: venue position, live buy and sell, and the summed qty of printed fill reports."
+-- "Last: venue position, live buy and sell, and" the lots filled, N2's sum over the printed reports
 abbrev pub lastOf : KernelState → ℕ → List ℕ
 lastOf s filled = lastLine (s .gate .«venue_pos» .lots) (s .gate .«live_buy_lots») (s .gate .«live_sell_lots») filled
 

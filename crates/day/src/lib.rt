@@ -12,7 +12,7 @@ ghost use Rattle.write.specs.Write.{textAt, texted};
 ghost use Rattle.day.specs.Day.{actualTurns, turned, PrintsTurns};
 ghost use Rattle.day.specs.Replay.{lastOf};
 
-// What turns leave: whether the run goes on, the state, the filled sum so far, and how many bytes of text.
+// What turns leave: whether the run goes on, the state, the lots filled so far, and how many bytes of text.
 pub struct Turned {
     pub more: bool,
     pub state: KernelState,

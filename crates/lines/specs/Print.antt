@@ -1,5 +1,6 @@
 -- The lines that `replay` prints: those of a call, the last and `bad`.
 use Prim.Native.Nat.{ℕ, zero, suc, _+_, _-_, _/_, min}
+use mathlib.Core.Bool.{_&&_, _||_}
 use mathlib.Core.List.{List, [], _∷_, _++_}
 use lib.Dec.{ltb, eqb}
 use lib.IntN.{ℤ}
@@ -22,19 +23,20 @@ recordsOf log events last = min (events - (last - 512)) (length log / 12)
 unfoldable pub callText : List ℕ → ℕ → ℕ → List ℕ
 callText log events last = printed (recordsOf log events last) log ++ pick (ltb (recordsOf log events last) events) (bytes "cut\n") []
 
--- "the summed qty of printed fill reports": a report's word 5 is its kind, word 9 its qty
-unfoldable pub filledQty : List ℕ → ℕ
-filledQty w = pick (eqb (word w 0) 1) (pick (eqb (word w 5) 5) (word w 9) 0) 0
+-- N2, "`last` over the printed reports of kind partial and fill": a record of kind 1 is a report, its word 5 its kind, 4 partial and 5 fill, its word 10 its last
+unfoldable pub filledLots : List ℕ → ℕ
+filledLots w = pick (eqb (word w 0) 1 && (eqb (word w 5) 4 || eqb (word w 5) 5)) (word w 10) 0
 
--- the sum, with the first n records of a log. It stays at 2^64 − 1, which no run reaches: all quantities together are within 64 bits
+-- N2, "the sum", with the first n records of a log. It stays at 2^64 − 1, which no run reaches: an order's fills are within its quantity, and all quantities together within 64 bits
 unfoldable pub filledFrom : ℕ → ℕ → List ℕ → ℕ
 filledFrom sum zero log = sum
-filledFrom sum (suc n) log = filledFrom (min (sum + filledQty (take 12 log)) 18446744073709551615) n (drop 12 log)
+filledFrom sum (suc n) log = filledFrom (min (sum + filledLots (take 12 log)) 18446744073709551615) n (drop 12 log)
 
+-- N2, "the printed reports": of the same records as callText
 unfoldable pub filledAfter : ℕ → List ℕ → ℕ → ℕ → ℕ
 filledAfter sum log events last = filledFrom sum (recordsOf log events last) log
 
--- "Last: venue position, live buy and sell, and the summed qty of printed fill reports"
+-- "Last: venue position, live buy and sell, and" N2's sum
 unfoldable pub lastLine : ℤ → ℕ → ℕ → ℕ → List ℕ
 lastLine p buy sell filled = all (bytes "position " ∷ signed p ∷ bytes " live" ∷ field buy ∷ field sell ∷ bytes " filled" ∷ field filled ∷ newline ∷ [])
 

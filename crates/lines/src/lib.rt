@@ -10,7 +10,7 @@ use write::put_signed;
 ghost use mathlib.Core.Path.{_≡_};
 ghost use Prim.Native.Nat.{_+_, min};
 ghost use Rattle.write.specs.Write.{textAt, texted};
-ghost use Rattle.lines.specs.Print.{recordsOf, callText, lastLine, badLine, filledQty, filledAfter};
+ghost use Rattle.lines.specs.Print.{recordsOf, callText, lastLine, badLine, filledLots, filledAfter};
 
 // How many records of the log are printed, of the events that several calls raised; `last` are the last call's, of which no more than 512 are.
 fn records(log: &[u64], events: u64, last: u64) -> usize
@@ -43,20 +43,20 @@ pub fn put_call(out: &mut [u8], log: &[u64], events: u64, last: u64) -> usize
     to
 }
 
-// The quantity of a printed report of kind fill, 0 of any other record.
-fn filled_qty(w: &[u64]) -> u64
-    ensures { λ r. ⌜ r ≡ filledQty (now (w .entry)) ⌝ }
+// The lots of a report of kind partial or fill, its `last`; 0 of any other record.
+fn filled_lots(w: &[u64]) -> u64
+    ensures { λ r. ⌜ r ≡ filledLots (now (w .entry)) ⌝ }
 {
     if word(w, 0) != 1 {
         return 0;
     }
-    if word(w, 5) != 5 {
-        return 0;
+    match word(w, 5) {
+        4 | 5 => word(w, 10),
+        _ => 0,
     }
-    word(w, 9)
 }
 
-// The sum of the quantities of the printed reports of kind fill, with those of calls. It stays at the largest number, which a run does not reach: all quantities together are within 64 bits.
+// The lots filled so far, with those of the printed reports of calls. The sum stays at the largest number, which a run does not reach: an order's fills are within its quantity, and all quantities together within 64 bits.
 pub fn add_filled(sum: u64, log: &[u64], events: u64, last: u64) -> u64
     ensures { λ r. ⌜ r ≡ filledAfter sum (now (log .entry)) events last ⌝ }
 {
@@ -66,7 +66,7 @@ pub fn add_filled(sum: u64, log: &[u64], events: u64, last: u64) -> u64
     while i < n {
         let from = i * 12;
         let end = from + 12;
-        s = add_up_to(s, filled_qty(&log[from..end]));
+        s = add_up_to(s, filled_lots(&log[from..end]));
         i += 1;
     }
     s

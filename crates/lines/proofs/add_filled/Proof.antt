@@ -33,7 +33,7 @@ add-filled-spec =
     (λ c. let b = c .before .before .before in let d = b .before in let e = d .before in let f = e .before .before in (
       omega arith,
       sum-turn (f .args .log .now) (e .records .result) (d .loop .i) (b .loop-test .taken) _ _ _ (d .loop .i * 12 + 12 - d .loop .i * 12) _
-          (omega arith) (c .before .filled-qty .ensures) (c .add-up-to .ensures) (d .loop .inv .1),
+          (omega arith) (c .before .filled-lots .ensures) (c .add-up-to .ensures) (d .loop .inv .1),
     ))
     (λ c. let b = c .before .before .before .before in
     sum-whole (b .args .log .now) (b .args .sum) (b .args .events) (b .args .last) (c .before .before .records .result) _ (c .before .before .records .ensures)

@@ -29,7 +29,7 @@ examples = (refl, refl, refl, refl)
 
 -- ---- N2, of an order for 10: the words of a report (1), or of one delivered (3), by its kind, last and cum
 onTen : ℕ → ℕ → ℕ → ℕ → List ℕ
-onTen told kind lots cum = told ∷ 20 ∷ 1 ∷ 1 ∷ 0 ∷ kind ∷ 1 ∷ 0 ∷ 101 ∷ 10 ∷ lots ∷ cum ∷ []
+onTen event kind lots cum = event ∷ 20 ∷ 1 ∷ 1 ∷ 0 ∷ kind ∷ 1 ∷ 0 ∷ 101 ∷ 10 ∷ lots ∷ cum ∷ []
 
 times : ℕ → List ℕ → List ℕ
 times zero l = []

@@ -32,7 +32,7 @@ linesOf : List KernelEvent → List ℕ
 linesOf [] = []
 linesOf (e ∷ es) = eventLine (eventWords e) ++ linesOf es
 
-sumOf : ℕ → List KernelEvent → ℕ
+unfoldable pub sumOf : ℕ → List KernelEvent → ℕ
 sumOf sum [] = sum
 sumOf sum (e ∷ es) = sumOf (min (sum + filledLots (eventWords e)) 18446744073709551615) es
 
@@ -82,10 +82,10 @@ length-written log (e ∷ es) = pick-case (λ (l : List ℕ). length l ≡ lengt
     (λ h. length-append (eventWords e) (written (drop 12 log) es) ∙ omega (arith, twelve e, length-written (drop 12 log) es, length-drop 12 log, ltb-false (length log) 12 h))
 
 -- ---- "The log is 512 records; a call raising more then adds `cut`", by the events
-abbrev shown : List KernelEvent → ℕ
+abbrev pub shown : List KernelEvent → ℕ
 shown es = min (length es) 512
 
-callLines : List KernelEvent → List ℕ
+pub callLines : List KernelEvent → List ℕ
 callLines es = linesOf (take (shown es) es) ++ pick (ltb (shown es) (length es)) (bytes "cut\n") []
 
 ltb-add : (k m n : ℕ) → ltb (k + m) (k + n) ≡ ltb m n
@@ -164,7 +164,7 @@ module _ (c : Config) (rows : List ℕ) where
   abbrev pub after : ℕ → KernelState → ℕ → List ℕ
   after n s sum = pick (hasMore s) (turnsFrom n c rows (passedOn s) sum) (lastOf (passedOn s) sum)
 
-  one-turn : (n : ℕ) (s : KernelState) (sum : ℕ)
+  pub one-turn : (n : ℕ) (s : KernelState) (sum : ℕ)
       → turnsFrom (suc n) c rows s sum ≡ callLines (advance c rows s .events) ++ after n (advance c rows s .state) (sumOf sum (take (shown (advance c rows s .events)) (advance c rows s .events)))
   unfolding turnsFrom linesOf sumOf
   one-turn n s sum =

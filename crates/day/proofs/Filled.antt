@@ -1,13 +1,13 @@
 -- The last line's `filled` is N2's sum over the events that a run prints. Assumes nothing.
-use Prim.Native.Nat.{ℕ, zero, suc, _+_, _≤_, _<_, min}
+use Prim.Native.Nat.{ℕ, zero, suc, _+_, _≤_, min}
 use mathlib.Core.Bool.{Bool, true, false, _||_}
 use mathlib.Core.List.{List, [], _∷_, _++_, append-assoc}
 use mathlib.Core.Path.{_≡_, refl, sym, ap, _∙_}
 use native.Mathlib.Omega.{arith}
-use lib.Dec.{ltb, eqb}
-use lib.ListN.{length, take}
-use lib.Seq.{take-all, take-length}
-use borrow.Author.Tests.{ltb-true, ltb-false}
+use native.Mathlib.Nat.{zero-add}
+use lib.Dec.{eqb}
+use lib.ListN.{take, length-take}
+use lib.Seq.{take-all, take-take}
 use Rattle.numbers.specs.Choice.{pick}
 use Rattle.lists.specs.Lists.{total}
 use Rattle.lists.proofs.Sums.{total-append}
@@ -58,13 +58,7 @@ sum-reported sum (e ∷ es) h =
 
 -- of a call's events the first 512 are shown
 shown-first : (es : List KernelEvent) → take (shown es) es ≡ take 512 es
-shown-first es = go (ltb (length es) 512) refl
-  where
-    go : (b : Bool) → ltb (length es) 512 ≡ b → take (shown es) es ≡ take 512 es
-    go true h =
-        let few : length es < 512 = ltb-true (length es) 512 h in
-        let z : shown es ≡ length es = omega arith in rw (z, take-length es, take-all 512 es (omega arith))
-    go false h = let z : shown es ≡ 512 = omega (arith, ltb-false (length es) 512 h) in rw z
+shown-first es = sym (take-take (shown es) 512 es (omega arith)) ∙ take-all (shown es) (take 512 es) (omega (arith, length-take 512 es))
 
 -- ---- the turns of a run
 module _ (c : Config) (rows : List ℕ) where
@@ -97,8 +91,7 @@ module _ (c : Config) (rows : List ℕ) where
 
 -- every run
 pub filled-is-reported : (n : ℕ) (c : Config) (rows : List ℕ) (s : KernelState) → FilledIsReported n c rows s
-filled-is-reported n c rows s =
-    let z : 0 + total reportedLots (printedEvents n c rows s) ≡ total reportedLots (printedEvents n c rows s) = omega arith in rw z at (run-sums c rows n 0 s (omega arith))
+filled-is-reported n c rows s = rw zero-add at (run-sums c rows n 0 s (omega arith))
 
 -- document 01's sample, whose last line says 5
 sample : (n : ℕ) → total reportedLots (printedEvents (suc (suc n)) rules.config rules.rows rules.start) ≡ 5

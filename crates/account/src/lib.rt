@@ -1,4 +1,6 @@
 // The agent's account: the orders that it submitted and has not seen closed, at most 8 (account.rs of the Rust).
+#![tactic(auto)]
+
 ghost use Rattle.std.specs.Prelude.{◌≡◌};
 ghost use Rattle.lists.specs.Lists.{live, found_in, pushed, taken_at, store_at};
 ghost use Rattle.book.specs.Capacities.{account_capacity};
@@ -9,25 +11,25 @@ use book::{Found, OpenOrder};
 
 pub const CAPACITY: usize = 8;
 
-#[derive(Drop)]
+#[derive(Clone, Copy)]
 pub struct AgentAccount {
     pub slots: [OpenOrder; CAPACITY],
     pub count: usize,
 }
 
-#[derive(Drop)]
+#[derive(Clone, Copy)]
 pub struct AgentAccountPut {
     pub ok: bool,
     pub list: AgentAccount,
 }
 
-#[derive(Drop)]
+#[derive(Clone, Copy)]
 pub enum MaybeOpen {
     None,
     Some(OpenOrder),
 }
 
-#[derive(Drop)]
+#[derive(Clone, Copy)]
 pub struct AgentAccountTaken {
     pub got: MaybeOpen,
     pub list: AgentAccount,

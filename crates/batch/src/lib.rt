@@ -1,4 +1,6 @@
 // A batch of calls (advance_inner of step.rs). Every part of the state is a local of `run`, taken once and put back once: what is to happen is decided by small functions over small parts, and the lists are changed here, in place.
+#![tactic(auto)]
+
 ghost use Rattle.std.specs.Prelude.{◌≡◌, ◌/◌, length};
 ghost use Rattle.rules.specs.Batch.{run, returned_run};
 ghost use Rattle.batch.specs.Batch.{actual_run};
@@ -19,7 +21,7 @@ use state::{HaltReason, KernelEvent, KernelState};
 use walk::{Class, Next, look, next_of};
 
 // What a batch gives: the answer and the state of its last call, how many events all its calls raised, and how many the last one did.
-#[derive(Drop)]
+#[derive(Clone, Copy)]
 pub struct Advanced {
     pub answer: Answer,
     pub state: KernelState,

@@ -1,5 +1,7 @@
 // The records that the lists of the state hold (book.rs of the Rust) and, in a module of its own, the configuration. Each kind of list is a crate of its own above this one.
 // Each enum has the blank's case first, so that a slot of zeros and first cases is the blank entry.
+#![tactic(auto)]
+
 pub mod config;
 
 ghost use Rattle.std.specs.Prelude.{◌≡◌};
@@ -9,7 +11,7 @@ ghost use Rattle.book.specs.Numbers.{side_number, exec_number, origin_number, fl
 use numbers::words::saturating_sub;
 
 // The Rust's Dir.
-#[derive(Drop)]
+#[derive(Clone, Copy)]
 pub enum Side {
     Buy,
     Sell,
@@ -27,7 +29,7 @@ impl Side {
     }
 }
 
-#[derive(Drop)]
+#[derive(Clone, Copy)]
 pub enum OrderState {
     Submitted,
     Active,
@@ -51,7 +53,7 @@ impl OrderState {
 }
 
 // An order at the venue: resting, pending activation or awaiting a cancel's outcome.
-#[derive(Drop)]
+#[derive(Clone, Copy)]
 pub struct VenueOrder {
     pub id: u64,
     pub price: u64,
@@ -118,7 +120,7 @@ impl VenueOrder {
 }
 
 // A message holds one of three kinds. An activation carries a whole order and its life, 0 for none.
-#[derive(Drop)]
+#[derive(Clone, Copy)]
 pub enum MsgKind {
     Cancel { id: u64 },
     Activate { order: VenueOrder, life: u64 },
@@ -126,7 +128,7 @@ pub enum MsgKind {
 }
 
 // A venue message, keyed by (eff_ns, seq).
-#[derive(Drop)]
+#[derive(Clone, Copy)]
 pub struct VenueMsg {
     pub eff_ns: u64,
     pub seq: u64,
@@ -177,7 +179,7 @@ impl VenueMsg {
     }
 }
 
-#[derive(Drop)]
+#[derive(Clone, Copy)]
 pub enum ExecKind {
     Accepted,
     Rejected,
@@ -204,7 +206,7 @@ impl ExecKind {
 }
 
 // Where a report was produced.
-#[derive(Drop)]
+#[derive(Clone, Copy)]
 pub enum Origin {
     Local,
     Venue,
@@ -232,7 +234,7 @@ pub fn flag_number(flag: bool) -> u64
     0
 }
 
-#[derive(Drop)]
+#[derive(Clone, Copy)]
 pub struct ReportRec {
     pub ts_ns: u64,
     pub seq: u64,
@@ -247,7 +249,7 @@ pub struct ReportRec {
     pub cum: u64,
 }
 
-#[derive(Drop)]
+#[derive(Clone, Copy)]
 pub struct FillRec {
     pub ts_ns: u64,
     pub exec_id: u64,
@@ -257,14 +259,14 @@ pub struct FillRec {
     pub qty: u64,
 }
 
-#[derive(Drop)]
+#[derive(Clone, Copy)]
 pub enum MaybeFill {
     None,
     Some(FillRec),
 }
 
 // A report on its way to the agent, with the fill's record if it came from a match.
-#[derive(Drop)]
+#[derive(Clone, Copy)]
 pub struct Delivery {
     pub at_ns: u64,
     pub report: ReportRec,
@@ -297,7 +299,7 @@ impl Delivery {
 }
 
 // An observation on its way to the agent.
-#[derive(Drop)]
+#[derive(Clone, Copy)]
 pub struct ObsEntry {
     pub ready_ns: u64,
     pub row: u64,
@@ -315,7 +317,7 @@ impl ObsEntry {
 }
 
 // An order that the agent submitted and has not seen closed.
-#[derive(Drop)]
+#[derive(Clone, Copy)]
 pub struct OpenOrder {
     pub order_id: u64,
     pub awaiting_cancel_outcome: bool,
@@ -333,7 +335,7 @@ impl OpenOrder {
 }
 
 // What a search answers: a place, or none.
-#[derive(Drop)]
+#[derive(Clone, Copy)]
 pub enum Found {
     None,
     At(usize),

@@ -44,7 +44,7 @@ lines_append (e ∷ xs) ys = ap (λ (l : List ℕ). event_line (event_words e) +
 sum_append : (sum : ℕ) (xs ys : List KernelEvent) → sum_of sum (xs ++ ys) ≡ sum_of (sum_of sum xs) ys
 unfolding sum_of
 sum_append sum [] ys = refl
-sum_append sum (e ∷ xs) ys = sum_append _ xs ys
+sum_append sum (e ∷ xs) ys = sum_append (min (sum + filled_lots (event_words e)) 18446744073709551615) xs ys
 
 -- ---- in a log that has room for them
 module _ (log : List ℕ) (e : KernelEvent) (es : List KernelEvent) (h : 12 ≤ length log) where

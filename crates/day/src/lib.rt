@@ -1,4 +1,6 @@
 // A day's run between the reading of its text and the writing of its lines, on slices: nothing here opens a file.
+#![tactic(auto)]
+
 ghost use Rattle.std.specs.Prelude.{◌≡◌, length};
 ghost use Rattle.write.specs.Write.{text_at, texted};
 ghost use Rattle.day.specs.Day.{actual_turns, turned, PrintsTurns};
@@ -11,7 +13,7 @@ use lines::{add_filled, put_call, put_last};
 use state::KernelState;
 
 // What turns leave: whether the run goes on, the state, the lots filled so far, and how many bytes of text.
-#[derive(Drop)]
+#[derive(Clone, Copy)]
 pub struct Turned {
     pub more: bool,
     pub state: KernelState,
@@ -31,7 +33,7 @@ pub fn turns(
     log: &mut [u64],
     out: &mut [u8],
 ) -> Turned
-    ensures out_after { actual_turns result log.new out.new ≡ turned cfg rows.now state filled log.old out.old }
+    ensures whole_outcome { actual_turns result log.new out.new ≡ turned cfg rows.now state filled log.old out.old }
     ensures prints_turns { length log.old ≡ 12276 → length out.old ≡ 131072 → PrintsTurns cfg rows.now state filled result out.new }
 {
     let a = run(cfg, rows, state, log, BATCH_PASSES);

@@ -1,11 +1,10 @@
 -- `deeds`, what an activation, a cancel and an expiry do: one law for each way out of a function. Assumes nothing.
 use Prim.Native.Nat.{ℕ}
-use mathlib.Core.Bool.{Bool, true, false, not}
+use mathlib.Core.Bool.{Bool, true, false}
 use mathlib.Core.List.{List}
 use mathlib.Core.Option.{Option, none, some}
 use mathlib.Core.Path.{◌≡◌, refl, sym, ap, ◌∙◌}
 use native.Mathlib.Omega.{arith}
-use borrow.Author.Tests.{not-true, not-false}
 use lib.Dec.{leb, ltb}
 use lib.ListN.{get_or}
 use Rattle.numbers.specs.Choice.{pick}
@@ -132,17 +131,17 @@ module _ (w : List ℕ) (raised : ℕ) (cfg : Config) (o : VenueOrder) (expiry :
   activate_unstamped m d ed s = ap (λ (x : Step). actual x w) (ed s) ∙ stamp_stop w raised (with_venue s v) _ a e m
 
   module _ (h : a.outcome ≡ Ran) (b : Bool) (eb : b ≡ valid o) (q : VenueOrder) (s : KernelState) where
-    pub activate_invalid : not b ≡ true → q ≡ in_state o order.Rejected
+    pub activate_invalid : b ≡ false → q ≡ in_state o order.Rejected
         → {x : StepResult} → x ≡ expected (log_at w raised) (reject cfg q (stamped_at v.seqs.stamp_seq (with_venue s (stamped_by v a))) (with_venue s (stamped_by v a)))
         → x ≡ expected (log_at w raised) (activate cfg o expiry (with_venue s v))
     unfolding activate pick
-    activate_invalid n hq p = stamp-at w raised (with_venue s v) _ a e h (λ t. reject cfg q t (with_venue s (stamped_by v a))) (rw (← eb, not-true b n, hq)) p
+    activate_invalid n hq p = stamp-at w raised (with_venue s v) _ a e h (λ t. reject cfg q t (with_venue s (stamped_by v a))) (rw (← eb, n, hq)) p
 
-    pub activate-valid : not b ≡ false → q ≡ in_state o order.Active
+    pub activate-valid : b ≡ true → q ≡ in_state o order.Active
         → {x : StepResult} → x ≡ expected (log_at w raised) (accept cfg q expiry (stamped_at v.seqs.stamp_seq (with_venue s (stamped_by v a))) (with_venue s (stamped_by v a)))
         → x ≡ expected (log_at w raised) (activate cfg o expiry (with_venue s v))
     unfolding activate pick
-    activate-valid n hq p = stamp-at w raised (with_venue s v) _ a e h (λ t. accept cfg q expiry t (with_venue s (stamped_by v a))) (rw (← eb, not-false b n, hq)) p
+    activate-valid n hq p = stamp-at w raised (with_venue s v) _ a e h (λ t. accept cfg q expiry t (with_venue s (stamped_by v a))) (rw (← eb, n, hq)) p
 
 -- ---- an order that comes out of its list: s is the state, t the state without it
 abbrev without : KernelState → ℕ → KernelState

@@ -1,13 +1,9 @@
 -- `deeds`, where an order stands: one law for each way out of a function. Assumes nothing.
 use Prim.Native.Nat.{ℕ}
 use mathlib.Core.Bool.{Bool, true}
-use mathlib.Core.List.{[], ◌∷◌}
-use mathlib.Core.Logic.{⊎_elim}
 use mathlib.Core.Option.{none, some}
 use mathlib.Core.Path.{◌≡◌, refl, sym, ap, ◌∙◌}
 use native.Mathlib.Omega.{arith}
-use types.Run.{OneOf}
-use denote.Enum.Declared.{tag_of}
 use lib.ListN.{get_or}
 use Rattle.lists.specs.Lists.{Row, on_some, live, found_in, taken_at, entry_at}
 use Rattle.lists.proofs.Exits.{entry_in}
@@ -55,9 +51,9 @@ module _ (p : VenueOrder → Bool) (l : Orders) (at : Found) (e : place at ≡ f
     order_at_lem o k = let q : some o ≡ some (get_or l.slots i blank_order) = sym (ap order_in k) ∙ is-there in let z : o ≡ get_or l.slots i blank_order = cc in rw (← e, h) (ap (place.At i) z)
 
 -- an activation that is found is one
-is_carried : (k : MsgKind) (id : ℕ) → activates id k ≡ true → OneOf (0 ∷ 2 ∷ []) (tag_of Rattle.book.specs.contracts.MsgKind.the_type k) → {B : Type 0} → B
+is_carried : (k : MsgKind) (id : ℕ) → activates id k ≡ true → ((o : VenueOrder) (life : ℕ) → k ≡ Activate o life → ⊥) → {B : Type 0} → B
 is_carried (Cancel i) id e m = let z : ◌≡◌ {A = ℕ} 0 1 = cc in absurd (omega arith)
-is_carried (Activate o life) id e m = absurd (⊎_elim (λ x. omega arith) (λ x. omega arith) m)
+is_carried (Activate o life) id e m = absurd (m o life refl)
 is_carried (Expire i) id e m = let z : ◌≡◌ {A = ℕ} 0 1 = cc in absurd (omega arith)
 
 pub is-activation : (k : MsgKind) (id : ℕ) → activates id k ≡ true → (life : ℕ) × (k ≡ Activate (activated k) life)
@@ -83,7 +79,7 @@ module _ (id : ℕ) (l : Msgs) (at : Found) (e : place at ≡ found_in (is_activ
       msg_activates : activates id m.kind ≡ true
       msg_activates = rw msg_is (found-live (is_activation id) blank_msg 16 (msgs_row l) i (sym e ∙ ap place h)).2
 
-      pub pending_other : OneOf (0 ∷ 2 ∷ []) (tag_of Rattle.book.specs.contracts.MsgKind.the_type m.kind) → place.None ≡ order_pending (found_in (is_activation id) (live 16 (msgs_row l))) l.slots
+      pub pending_other : ((o : VenueOrder) (life : ℕ) → m.kind ≡ Activate o life → ⊥) → place.None ≡ order_pending (found_in (is_activation id) (live 16 (msgs_row l))) l.slots
       pending_other t = is_carried m.kind id msg_activates t
 
       pub pending_at : (o : VenueOrder) (life : ℕ) → m.kind ≡ Activate o life → place.At i o ≡ order_pending (found_in (is_activation id) (live 16 (msgs_row l))) l.slots

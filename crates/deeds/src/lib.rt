@@ -1,4 +1,6 @@
 // What a message does: activations, cancels and expiries. It is decided on the parts of the state beside the lists, and said as a deed; the lists are changed after that, in `messages`.
+#![tactic(auto)]
+
 ghost use Rattle.std.specs.Prelude.{◌≡◌, List, ℕ};
 ghost use Rattle.std.proofs.Math.Option.{some};
 ghost use Rattle.book.specs.declared.MaybeFill.TheVariants.{None};
@@ -37,7 +39,7 @@ use reports::{Outcome, Venue};
 use state::{GateState, HaltReason, KernelEvent, KernelState};
 
 // How many entries the lists have that a message may add to.
-#[derive(Drop)]
+#[derive(Clone, Copy)]
 pub struct Counts {
     pub orders: usize,
     pub msgs: usize,
@@ -46,7 +48,7 @@ pub struct Counts {
 }
 
 // What becomes of a list of orders: nothing, one comes, or the one at a place goes.
-#[derive(Drop)]
+#[derive(Clone, Copy)]
 pub enum OrderEdit {
     Keep,
     Comes(VenueOrder),
@@ -54,7 +56,7 @@ pub enum OrderEdit {
 }
 
 // The same of the messages.
-#[derive(Drop)]
+#[derive(Clone, Copy)]
 pub enum MsgEdit {
     Keep,
     Comes(VenueMsg),
@@ -62,20 +64,20 @@ pub enum MsgEdit {
 }
 
 // What is told, with what becomes of one list.
-#[derive(Drop)]
+#[derive(Clone, Copy)]
 pub struct OrderStep {
     pub told: Told,
     pub edit: OrderEdit,
 }
 
-#[derive(Drop)]
+#[derive(Clone, Copy)]
 pub struct MsgStep {
     pub told: Told,
     pub edit: MsgEdit,
 }
 
 // What a message does once it has left: what is told, and what becomes of each list.
-#[derive(Drop)]
+#[derive(Clone, Copy)]
 pub struct Deed {
     pub told: Told,
     pub orders: OrderEdit,
@@ -84,14 +86,14 @@ pub struct Deed {
 }
 
 // An order with its place in a list.
-#[derive(Drop)]
+#[derive(Clone, Copy)]
 pub enum OrderAt {
     None,
     At(usize, VenueOrder),
 }
 
 // When an activation's order expires: never, at a time, or it halts before the message leaves.
-#[derive(Drop)]
+#[derive(Clone, Copy)]
 pub enum Expiry {
     None,
     At(u64),

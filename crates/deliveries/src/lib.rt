@@ -1,4 +1,6 @@
 // The reports on their way to the agent, at most 24.
+#![tactic(auto)]
+
 ghost use Rattle.std.specs.Prelude.{◌≡◌};
 ghost use Rattle.lists.specs.Lists.{live, pushed, taken_at, popped, entry_at};
 ghost use Rattle.book.specs.Capacities.{deliveries_capacity};
@@ -9,25 +11,25 @@ use book::Delivery;
 
 pub const CAPACITY: usize = 24;
 
-#[derive(Drop)]
+#[derive(Clone, Copy)]
 pub struct Deliveries {
     pub slots: [Delivery; CAPACITY],
     pub count: usize,
 }
 
-#[derive(Drop)]
+#[derive(Clone, Copy)]
 pub struct DeliveriesPut {
     pub ok: bool,
     pub list: Deliveries,
 }
 
-#[derive(Drop)]
+#[derive(Clone, Copy)]
 pub enum MaybeDelivery {
     None,
     Some(Delivery),
 }
 
-#[derive(Drop)]
+#[derive(Clone, Copy)]
 pub struct DeliveriesTaken {
     pub got: MaybeDelivery,
     pub list: Deliveries,

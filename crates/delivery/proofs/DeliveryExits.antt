@@ -1,6 +1,6 @@
 -- Deliveries and the end of data: one law for each way out. Assumes nothing.
 use Prim.Native.Nat.{ℕ, zero, suc, ◌+◌, ◌<◌, ◌≤◌}
-use mathlib.Core.Bool.{Bool, true, false, not}
+use mathlib.Core.Bool.{Bool, true, false}
 use mathlib.Core.List.{List, map}
 use mathlib.Core.Option.{some}
 use mathlib.Core.Path.{◌≡◌, sym, ap, ◌∙◌}
@@ -8,7 +8,7 @@ use native.Mathlib.Numerals.{add-one}
 use native.Mathlib.Omega.{arith}
 use lib.ListN.{length, take, drop, get_or, drop_of_length-le}
 use lib.Seq.{length-take-le}
-use borrow.Author.Tests.{not-true, not-false, lt-leb, le-leb}
+use borrow.Author.Tests.{lt-leb, le-leb}
 use Rattle.numbers.specs.Choice.{pick}
 use Rattle.numbers.specs.Position.{on_moved}
 use Rattle.numbers.specs.Words.{fitting, on_word}
@@ -86,27 +86,27 @@ module _ (carried : MaybeFill) (agent : AgentView) where
 
 -- ---- count_reject
 module _ (report : ReportRec) (agent : AgentView) (rejected : Bool) (r : rejected ≡ is_rejected report.kind) where
-  pub reject_not : not rejected ≡ true → (s : KernelState) (n : ℕ) (w : List ℕ)
+  pub reject_not : rejected ≡ false → (s : KernelState) (n : ℕ) (w : List ℕ)
       → actual (agent_in s n (record { outcome = Ran; agent = agent })) w ≡ expected (log_at w n) (count_reject report (with_agent s agent))
   unfolding count_reject pick expected append_events
-  reject_not h s n w = rw (← r, not-true rejected h)
+  reject_not h s n w = rw (← r, h)
 
-  module _ (local : Bool) (h : not rejected ≡ false) (l : local ≡ is_local report.origin) where
-    pub reject-venue : not local ≡ true → (s : KernelState) (n : ℕ) (w : List ℕ)
+  module _ (local : Bool) (h : rejected ≡ true) (l : local ≡ is_local report.origin) where
+    pub reject-venue : local ≡ false → (s : KernelState) (n : ℕ) (w : List ℕ)
         → actual (agent_in s n (record { outcome = Ran; agent = agent })) w ≡ expected (log_at w n) (count_reject report (with_agent s agent))
     unfolding count_reject pick expected append_events
-    reject-venue o s n w = rw (← r, not-false rejected h, ← l, not-true local o)
+    reject-venue o s n w = rw (← r, h, ← l, o)
 
-    module _ (count : MaybeU64) (o : not local ≡ false) (e : count ≡ fitting (agent.delivered_local_rejects + 1)) where
+    module _ (count : MaybeU64) (o : local ≡ true) (e : count ≡ fitting (agent.delivered_local_rejects + 1)) where
       pub reject-full : count ≡ u64.None → (s : KernelState) (n : ℕ) (w : List ℕ)
           → actual (agent_in s n (record { outcome = Halt CounterOverflow; agent = agent })) w ≡ expected (log_at w n) (count_reject report (with_agent s agent))
       unfolding count_reject pick on_word expected append_events
-      reject-full g s n w = rw (← r, not-false rejected h, ← l, not-false local o, ← e, g)
+      reject-full g s n w = rw (← r, h, ← l, o, ← e, g)
 
       pub reject-counts : (k : ℕ) → count ≡ u64.Some k → (s : KernelState) (n : ℕ) (w : List ℕ)
           → actual (agent_in s n (record { outcome = Ran; agent = agent_delivered_local_rejects agent k })) w ≡ expected (log_at w n) (count_reject report (with_agent s agent))
       unfolding count_reject pick on_word expected append_events
-      reject-counts k g s n w = rw (← r, not-false rejected h, ← l, not-false local o, ← e, g)
+      reject-counts k g s n w = rw (← r, h, ← l, o, ← e, g)
 
 -- ---- hand
 -- what follows the agent's move, and the count

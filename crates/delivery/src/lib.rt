@@ -1,4 +1,6 @@
 // Deliveries, and the end of data.
+#![tactic(auto)]
+
 ghost use Rattle.std.specs.Prelude.{◌≡◌, false, List, map, ℕ};
 ghost use Rattle.lists.specs.Lists.{live};
 ghost use Rattle.book.specs.Capacities.{msgs_capacity};
@@ -25,14 +27,14 @@ use reports::{Outcome, Venue};
 use state::{AgentView, Control, HaltReason, KernelEvent, Status};
 
 // What a delivery does to the agent.
-#[derive(Drop)]
+#[derive(Clone, Copy)]
 pub struct AgentStep {
     pub outcome: Outcome,
     pub agent: AgentView,
 }
 
 // What a delivery changes of the state, beside its leaving the list.
-#[derive(Drop)]
+#[derive(Clone, Copy)]
 pub struct DeliveryStep {
     pub outcome: Outcome,
     pub agent: AgentView,
@@ -41,7 +43,7 @@ pub struct DeliveryStep {
 }
 
 // What delivering all changes of the state.
-#[derive(Drop)]
+#[derive(Clone, Copy)]
 pub struct Emptied {
     pub outcome: Outcome,
     pub deliveries: Deliveries,
@@ -51,7 +53,7 @@ pub struct Emptied {
 }
 
 // What dropping the messages and observations changes of the state.
-#[derive(Drop)]
+#[derive(Clone, Copy)]
 pub struct Closed {
     pub outcome: Outcome,
     pub control: Control,
@@ -62,7 +64,7 @@ pub struct Closed {
 }
 
 // What the end of the data changes of the state: all but the booked orders and those that await.
-#[derive(Drop)]
+#[derive(Clone, Copy)]
 pub struct Closing {
     pub outcome: Outcome,
     pub control: Control,

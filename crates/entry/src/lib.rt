@@ -1,4 +1,6 @@
 // What is tested when a call begins, and a pass (step.rs of the Rust): small parts of the state in, and what is decided out.
+#![tactic(auto)]
+
 ghost use Rattle.std.specs.Prelude.{[], ◌≡◌};
 ghost use Rattle.state.specs.With.{with_control};
 ghost use Rattle.state.specs.declared.KernelState.{KernelState};
@@ -10,7 +12,7 @@ use numbers::words::checked_add;
 use state::{Control, Phase, Refusal};
 
 // Whether a call ran, or why it was refused.
-#[derive(Drop)]
+#[derive(Clone, Copy)]
 pub enum Answer {
     Ran,
     Refused(Refusal),
@@ -29,7 +31,7 @@ impl Answer {
 }
 
 // How many entries the lists have.
-#[derive(Drop)]
+#[derive(Clone, Copy)]
 pub struct Counts {
     pub orders: usize,
     pub msgs: usize,
@@ -99,7 +101,7 @@ fn can_resume(phase: Phase) -> bool
 }
 
 // Whether a pass may go on, and the control that it leads to.
-#[derive(Drop)]
+#[derive(Clone, Copy)]
 pub struct PassTo {
     pub answer: Answer,
     pub control: Control,
@@ -157,7 +159,7 @@ pub fn pass_control(fits: bool, c: Control) -> PassTo
 const CALL_RECORDS: u64 = 512;
 
 // Where a pause leads: to another call, behind a pass, with the passes that are then left; or nowhere.
-#[derive(Drop)]
+#[derive(Clone, Copy)]
 pub enum Again {
     Stop,
     With(Control, u64),

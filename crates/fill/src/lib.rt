@@ -1,4 +1,6 @@
 // Which orders a row matches, and how many lots of one it fills.
+#![tactic(auto)]
+
 ghost use Rattle.std.specs.Prelude.{◌≡◌, ◌-◌, ◌*◌, ◌/◌};
 ghost use Rattle.book.specs.Entries.{is_active};
 ghost use Rattle.rules.specs.Matching.{crosses, matches, ahead, lots_of, queue_fill_lots, fill_lots};

@@ -1,4 +1,6 @@
 // The kernel's two calls: `advance` and `pass` (step.rs of the Rust). A state goes in by value and comes back. `advance` is a batch with no pass: `batch::run` makes several calls with the state handed over once.
+#![tactic(auto)]
+
 ghost use Rattle.std.specs.Prelude.{[], ◌≡◌};
 ghost use Rattle.rules.specs.Calls.{advance, pass, returned};
 ghost use Rattle.kernel.specs.Calls.{actual_advance, actual_pass};
@@ -15,7 +17,7 @@ pub fn advance(cfg: Config, rows: &[u64], state: KernelState, log: &mut [u64]) -
     run(cfg, rows, state, log, 0)
 }
 
-#[derive(Drop)]
+#[derive(Clone, Copy)]
 pub struct Passed {
     pub answer: Answer,
     pub state: KernelState,

@@ -1,4 +1,6 @@
 // The lines that `replay` prints: those of a call, with `cut`, the last line, and `bad`.
+#![tactic(auto)]
+
 ghost use Rattle.std.specs.Prelude.{◌≡◌, ◌+◌, min};
 ghost use Rattle.write.specs.Write.{text_at, texted};
 ghost use Rattle.lines.specs.Print.{records_of, call_text, last_line, bad_line, filled_lots, filled_after};

@@ -1,4 +1,6 @@
 // The line that `replay` prints of a record of the log.
+#![tactic(auto)]
+
 ghost use Rattle.std.specs.Prelude.{◌≡◌, [], ◌∷◌, ◌+◌, ◌≤◌, length, take, drop, get_or};
 ghost use Rattle.write.specs.Write.{text_at, texted};
 ghost use Rattle.logline.specs.Record.{word, field, all, event_name, kind_name, report_line, fill_line, short_line, one_line, event_line};

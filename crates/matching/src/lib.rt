@@ -1,4 +1,6 @@
 // Matching a row over the booked orders, and the terminal orders that leave after it.
+#![tactic(auto)]
+
 ghost use Rattle.std.specs.Prelude.{◌≡◌, ℕ, ◌<◌, ◌≤◌, List};
 ghost use Rattle.std.proofs.Math.Option.{some};
 ghost use Rattle.lists.specs.Lists.{entry_at};
@@ -31,7 +33,7 @@ use reports::{Outcome, Venue};
 use state::{Clock, HaltReason, KernelEvent, Seqs};
 
 // A fill up to its event.
-#[derive(Drop)]
+#[derive(Clone, Copy)]
 pub struct Filled {
     pub outcome: Outcome,
     pub venue: Venue,
@@ -39,7 +41,7 @@ pub struct Filled {
 }
 
 // A fill with its report: the order as it is to be stored. Its delivery has room where it ran; the caller puts it behind those that wait.
-#[derive(Drop)]
+#[derive(Clone, Copy)]
 pub struct FilledOrder {
     pub outcome: Outcome,
     pub venue: Venue,
@@ -48,7 +50,7 @@ pub struct FilledOrder {
 }
 
 // The lots that a row fills of an order: none, so many, or the halt of the queue rule.
-#[derive(Drop)]
+#[derive(Clone, Copy)]
 pub enum Lots {
     Nothing,
     Take(VenueOrder, u64),
@@ -56,7 +58,7 @@ pub enum Lots {
 }
 
 // What the terminal orders' leaving changes of the state.
-#[derive(Drop)]
+#[derive(Clone, Copy)]
 pub struct Swept {
     pub outcome: Outcome,
     pub orders: Orders,

@@ -1,12 +1,8 @@
 -- `messages`, the first message leaves, then acts: one law for each way out of a function. Assumes nothing.
 use Prim.Native.Nat.{ℕ, ◌+◌}
 use mathlib.Core.Bool.{Bool, true, false, ◌&&◌}
-use mathlib.Core.List.{List, [], ◌∷◌}
-use mathlib.Core.Logic.{⊎_elim}
+use mathlib.Core.List.{List}
 use mathlib.Core.Path.{◌≡◌, refl, sym, ap, ◌∙◌}
-use native.Mathlib.Omega.{arith}
-use types.Run.{OneOf}
-use denote.Enum.Declared.{tag_of}
 use lib.Dec.{ltb}
 use Rattle.numbers.specs.Choice.{pick}
 use Rattle.numbers.specs.Words.{fits, fitting, on_word}
@@ -60,10 +56,10 @@ acts-tested c (Activate o life) s t = go (valid o && ltb 0 life) (fitting (o.act
     go true (u64.Some at) false = unfold pick on_word in refl
     go true (u64.Some at) true = unfold pick on_word in refl
 
-not_fail : (x : Expiry) → OneOf (0 ∷ 1 ∷ []) (tag_of Rattle.deeds.specs.contracts.Expiry.the_type x) → (c : Config) (k : MsgKind) (s t : KernelState) → tested c k x s t ≡ acts_at c k (time_of x) t
+not_fail : (x : Expiry) → ((h : HaltReason) → x ≡ expiry.Fail h → ⊥) → (c : Config) (k : MsgKind) (s t : KernelState) → tested c k x s t ≡ acts_at c k (time_of x) t
 not_fail expiry.None m c k s t = refl
 not_fail (expiry.At at) m c k s t = refl
-not_fail (expiry.Fail h) m c k s t = absurd (⊎_elim (λ x. omega arith) (λ x. omega arith) m)
+not_fail (expiry.Fail h) m c k s t = absurd (m h refl)
 
 module _ (w : List ℕ) (raised : ℕ) (cfg : Config) (v : Venue) (os : Orders) (ms : Msgs) (ws : Orders) (taken : MsgsTaken) (et : msgs_taken taken ≡ popped 16 blank_msg (msgs_row ms)) where
   pub act_none : taken.got ≡ msg.None → (f : Told) → f ≡ ran_with v raised → (s : KernelState)
@@ -89,7 +85,7 @@ module _ (w : List ℕ) (raised : ℕ) (cfg : Config) (v : Venue) (os : Orders) 
         ap (λ (y : Told). actual (told_in (with_lists s os ms ws) y) w) ef
         ∙ leaves s (rw k (expected-halt (log_at w raised) z (with_venue (with_lists s os ms ws) v)))
 
-    pub act_leaves : OneOf (0 ∷ 1 ∷ []) (tag_of Rattle.deeds.specs.contracts.Expiry.the_type x) → (at : MaybeU64) → at ≡ time_of x → (waiting : ℕ) (w1 : List ℕ) (d : Deed)
+    pub act_leaves : ((z : HaltReason) → x ≡ expiry.Fail z → ⊥) → (at : MaybeU64) → at ≡ time_of x → (waiting : ℕ) (w1 : List ℕ) (d : Deed)
         → ((s : KernelState) → record { orders = os.count; msgs = taken.list.count; awaiting = ws.count; deliveries = waiting } ≡ counts_of (with_lists s os taken.list ws)
         → actual (deed_in (with_lists s os taken.list ws) d) w1 ≡ expected (log_at w raised) (acts_at cfg m.kind at (with_venue (with_lists s os taken.list ws) v)))
         → (o1 : Orders) → o1 ≡ edit_orders d.orders os → (m1 : Msgs) → m1 ≡ edit_msgs d.msgs taken.list → (a1 : Orders) → a1 ≡ edit_awaiting d.awaiting ws

@@ -1,4 +1,6 @@
 // The venue's messages: the first one leaves, then acts. What it does is a deed; here the lists are changed by it.
+#![tactic(auto)]
+
 ghost use Rattle.std.specs.Prelude.{◌≡◌};
 ghost use Rattle.state.specs.declared.KernelState.{KernelState};
 ghost use Rattle.state.specs.With.{with_msgs};
@@ -18,7 +20,7 @@ use reports::Venue;
 use reports::report::Told;
 
 // What a message changes of the state.
-#[derive(Drop)]
+#[derive(Clone, Copy)]
 pub struct Acted {
     pub told: Told,
     pub orders: Orders,

@@ -1,5 +1,4 @@
 -- What the leaves answer, as the rules say it. A conversion only renames.
-use Rattle.std.specs.Prelude.{ℕ}
 use Rattle.std.proofs.Math.Option.{Option, none, some}
 use Rattle.state.specs.declared.GateState.{GateState}
 use Rattle.rules.specs.Generator.{Draw}

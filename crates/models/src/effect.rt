@@ -8,7 +8,7 @@ use account::AgentAccount;
 use book::{ExecKind, Found, OpenOrder, Origin, ReportRec};
 
 // What a report does to its order's entry.
-#[derive(Drop)]
+#[derive(Clone, Copy)]
 pub enum Effect {
     Stands,
     Closes,

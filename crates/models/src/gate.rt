@@ -9,7 +9,7 @@ use numbers::position::{Moved, Position};
 use state::GateState;
 
 // The gate after a release or a fill, or that it does not pass.
-#[derive(Drop)]
+#[derive(Clone, Copy)]
 pub enum Gated {
     Fail,
     Done(GateState),

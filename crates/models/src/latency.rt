@@ -9,7 +9,7 @@ use numbers::MaybeU64;
 use numbers::words::{checked_add, checked_mul};
 
 // The generator after the jitter was drawn, with the time, or none where the sum, the product or the time passes 64 bits.
-#[derive(Drop)]
+#[derive(Clone, Copy)]
 pub struct Arrival {
     pub rng: u64,
     pub time: MaybeU64,

@@ -5,13 +5,13 @@ ghost use Rattle.models.specs.Rules.{rule_draw};
 
 use numbers::words::wrapping_mul;
 
-#[derive(Drop)]
+#[derive(Clone, Copy)]
 pub struct KernelRng {
     pub state: u64,
 }
 
 // The generator after a draw, with the number drawn.
-#[derive(Drop)]
+#[derive(Clone, Copy)]
 pub struct Drawn {
     pub rng: KernelRng,
     pub value: u64,

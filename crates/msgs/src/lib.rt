@@ -1,4 +1,6 @@
 // The venue's messages, at most 16, which stand by (eff_ns, seq).
+#![tactic(auto)]
+
 ghost use Rattle.std.specs.Prelude.{◌≡◌};
 ghost use Rattle.lists.specs.Lists.{live, before, found_in, put_at, put_before, taken_at, popped, entry_at, emptied};
 ghost use Rattle.book.specs.Capacities.{msgs_capacity};
@@ -9,25 +11,25 @@ use book::{Found, MsgKind, VenueMsg};
 
 pub const CAPACITY: usize = 16;
 
-#[derive(Drop)]
+#[derive(Clone, Copy)]
 pub struct Msgs {
     pub slots: [VenueMsg; CAPACITY],
     pub count: usize,
 }
 
-#[derive(Drop)]
+#[derive(Clone, Copy)]
 pub struct MsgsPut {
     pub ok: bool,
     pub list: Msgs,
 }
 
-#[derive(Drop)]
+#[derive(Clone, Copy)]
 pub enum MaybeMsg {
     None,
     Some(VenueMsg),
 }
 
-#[derive(Drop)]
+#[derive(Clone, Copy)]
 pub struct MsgsTaken {
     pub got: MaybeMsg,
     pub list: Msgs,

@@ -5,13 +5,13 @@ ghost use Rattle.numbers.specs.Position.{raised_by, lowered_by};
 // The largest count that a position is moved by.
 const MOST_LOTS: u64 = 9223372036854775807;
 
-#[derive(Drop)]
+#[derive(Clone, Copy)]
 pub struct Position {
     pub lots: i64,
 }
 
 // A position that was moved, or that would have left its range.
-#[derive(Drop)]
+#[derive(Clone, Copy)]
 pub enum Moved {
     Out,
     To(Position),

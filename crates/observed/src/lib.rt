@@ -1,4 +1,6 @@
 // The observations on their way to the agent, at most 16.
+#![tactic(auto)]
+
 ghost use Rattle.std.specs.Prelude.{◌≡◌};
 ghost use Rattle.lists.specs.Lists.{live, pushed, taken_at, popped, entry_at, emptied};
 ghost use Rattle.book.specs.Capacities.{observed_capacity};
@@ -9,25 +11,25 @@ use book::ObsEntry;
 
 pub const CAPACITY: usize = 16;
 
-#[derive(Drop)]
+#[derive(Clone, Copy)]
 pub struct Observed {
     pub slots: [ObsEntry; CAPACITY],
     pub count: usize,
 }
 
-#[derive(Drop)]
+#[derive(Clone, Copy)]
 pub struct ObservedPut {
     pub ok: bool,
     pub list: Observed,
 }
 
-#[derive(Drop)]
+#[derive(Clone, Copy)]
 pub enum MaybeObs {
     None,
     Some(ObsEntry),
 }
 
-#[derive(Drop)]
+#[derive(Clone, Copy)]
 pub struct ObservedTaken {
     pub got: MaybeObs,
     pub list: Observed,

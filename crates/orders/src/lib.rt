@@ -1,4 +1,6 @@
 // The orders at the venue, and those that await a cancel's outcome: at most 8 each.
+#![tactic(auto)]
+
 ghost use Rattle.std.specs.Prelude.{◌≡◌};
 ghost use Rattle.lists.specs.Lists.{live, before, found_in, put_at, pushed, put_before, taken_at, entry_at, store_at};
 ghost use Rattle.book.specs.Capacities.{orders_capacity};
@@ -9,25 +11,25 @@ use book::{Found, VenueOrder};
 
 pub const CAPACITY: usize = 8;
 
-#[derive(Drop)]
+#[derive(Clone, Copy)]
 pub struct Orders {
     pub slots: [VenueOrder; CAPACITY],
     pub count: usize,
 }
 
-#[derive(Drop)]
+#[derive(Clone, Copy)]
 pub struct OrdersPut {
     pub ok: bool,
     pub list: Orders,
 }
 
-#[derive(Drop)]
+#[derive(Clone, Copy)]
 pub enum MaybeOrder {
     None,
     Some(VenueOrder),
 }
 
-#[derive(Drop)]
+#[derive(Clone, Copy)]
 pub struct OrdersTaken {
     pub got: MaybeOrder,
     pub list: Orders,

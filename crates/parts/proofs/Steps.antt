@@ -1,16 +1,13 @@
 -- The steps of `batch::run` over the state in parts: lists that change in place, and one law for each step that a path alone does not answer. Assumes nothing.
 use Prim.Native.Nat.{ℕ, zero, suc, ◌+◌, ◌-◌, ◌*◌, ◌≤◌, ◌<◌, max}
 use mathlib.Core.Bool.{false, ◌&&◌}
-use mathlib.Core.List.{List, [], ◌∷◌}
+use mathlib.Core.List.{List}
 use mathlib.Core.Option.{Option, some}
-use mathlib.Core.Logic.{⊎_elim, inl, inr}
 use mathlib.Core.Path.{◌≡◌, refl, sym, ap, ◌∙◌}
 use native.Mathlib.Omega.{arith}
 use lib.Dec.{ltb, leb}
 use lib.ListN.{length, get_or, set}
 use borrow.Author.Tests.{leb-true, ltb-true, ltb-false, lt-ltb, le-ltb}
-use types.Run.{OneOf}
-use denote.Enum.Declared.{tag_of}
 use Rattle.numbers.specs.Choice.{pick}
 use Rattle.numbers.specs.Words.{fitting}
 use Rattle.lists.specs.Lists.{Row, Put, Taken, entry_at, popped, store_at}
@@ -152,12 +149,12 @@ pub slot_not : (x : MaybeDelivery) (n : ℕ) → x ≡ sent.None → slot.None �
 slot_not x n h = rw h
 
 -- ---- close
-pub close_not : (o : Outcome) → OneOf (0 ∷ 1 ∷ 3 ∷ []) (tag_of Rattle.reports.specs.contracts.Outcome.the_type o) → (w : List ℕ) (n : ℕ) (c : Control) (v : Venue) (s : KernelState) (b : ℕ)
+pub close_not : (o : Outcome) → ((h : HaltReason) → o ≡ Halt h → ⊥) → (w : List ℕ) (n : ℕ) (c : Control) (v : Venue) (s : KernelState) (b : ℕ)
     → finally b (with_control (with_venue s v) c) (log_at w n) ≡ final_of b (record { outcome = o; state = with_control (with_venue s v) c; log = log_at w n })
 unfolding final_of
 close_not Ran m w n c v s b = refl
 close_not Left m w n c v s b = refl
-close_not (Halt h) m w n c v s b = absurd (⊎_elim (λ z. omega arith) (λ y. ⊎_elim (λ z. omega arith) (λ z. omega arith) y) m)
+close_not (Halt h) m w n c v s b = absurd (m h refl)
 close_not Ended m w n c v s b = refl
 
 pub close_halt : (o : Outcome) (h : HaltReason) → o ≡ Halt h → (w w1 : List ℕ) (n k : ℕ) (c over : Control) (v : Venue) → over ≡ control_status (control_phase c Terminal) (status.Halted h) → log_at w1 k ≡ append_event (log_at w n) (Halted h) → (s : KernelState) (b : ℕ)
@@ -392,9 +389,9 @@ steps_stop Ended r l s f = refl
 steps_by : (o : Outcome) (l : Log) (s : KernelState) (f : KernelState → rules.Run) {x : StepResult} → (o ≡ Ran → expected l (f s) ≡ x) → (Stopped o → record { outcome = o; state = s; log = l } ≡ x) → steps_on o l s f ≡ x
 unfolding steps_on
 steps_by Ran l s f a b = a refl
-steps_by Left l s f a b = b (inl refl)
-steps_by (Halt h) l s f a b = b (inr (inl refl))
-steps_by Ended l s f a b = b (inr (inr refl))
+steps_by Left l s f a b = b (λ e. cc)
+steps_by (Halt h) l s f a b = b (λ e. cc)
+steps_by Ended l s f a b = b (λ e. cc)
 
 -- how much is left to do: nothing behind a stop
 unfoldable pub fuel : Outcome → ℕ → ℕ
@@ -467,7 +464,7 @@ module _ (cfg : Config) (rows : List ℕ) (records left b : ℕ) (l : Log) (s : 
 
     -- no pass follows
     pub ends_last : o ≡ Ran → again_as records left m.count u ≡ Stop → leaves_on Left cfg rows records left b m u ≡ leaves_on p cfg rows records left b l s
-    ends_last g h = leaves_stop Left (inl refl) cfg rows records left b m u ∙ left_is g ∙ sym (after_last cfg rows records left b (record { outcome = o; state = u; log = m }) g h) ∙ over
+    ends_last g h = leaves_stop Left (λ e. cc) cfg rows records left b m u ∙ left_is g ∙ sym (after_last cfg rows records left b (record { outcome = o; state = u; log = m }) g h) ∙ over
 
 -- a pass follows
 pub passes_on : (cfg : Config) (rows : List ℕ) (records left b : ℕ) (l : Log) (s : KernelState) → phase_turn cfg rows s ≡ rules.last (rules.ran_to s) → (next : Control) (fewer : ℕ) → again_as records left l.count s ≡ With next fewer

@@ -1,4 +1,6 @@
 // The state in parts, as `batch` holds it: taken apart, put together again, and the end of a call over its small parts.
+#![tactic(auto)]
+
 ghost use Rattle.std.specs.Prelude.{◌≡◌, ℕ};
 ghost use Rattle.state.specs.With.{with_control};
 ghost use Rattle.state.specs.declared.KernelState.{KernelState};
@@ -18,7 +20,7 @@ use reports::{Outcome, Venue};
 use state::{AgentView, Control, KernelEvent, KernelState, Status};
 
 // What the end of a call changes.
-#[derive(Drop)]
+#[derive(Clone, Copy)]
 pub struct Closed {
     pub control: Control,
     pub venue: Venue,
@@ -107,7 +109,7 @@ pub fn state_of(
 }
 
 // Where a delivery that is on its way goes: to the slot behind those that wait, if it has room.
-#[derive(Drop)]
+#[derive(Clone, Copy)]
 pub enum Slot {
     None,
     At(usize, Delivery),

@@ -2,7 +2,6 @@
 use Prim.Native.Nat.{ℕ, ◌+◌, ◌/◌, ◌≤◌, ◌<◌, max}
 use mathlib.Core.Bool.{false}
 use mathlib.Core.List.{List}
-use mathlib.Core.Logic.{inl, inr}
 use mathlib.Core.Option.{Option, none, some}
 use mathlib.Core.Path.{◌≡◌, refl, sym, ap, ◌∙◌, subst}
 use native.Mathlib.Omega.{arith}
@@ -173,7 +172,7 @@ Stops r = Stopped (outcome_of r.outcome)
 -- end of data ends the run, or halts
 close_stops : (s : KernelState) → Stops (close_data s)
 unfolding close_data
-close_stops s = word_case Stops _ _ _ (λ m _. word_case Stops _ _ _ (λ n _. inr (inr refl)) (λ _. inr (inl refl))) (λ _. inr (inl refl))
+close_stops s = word_case Stops _ _ _ (λ m _. word_case Stops _ _ _ (λ n _. λ e. cc) (λ _. λ e. cc)) (λ _. λ e. cc)
 
 then_stops : (r : rules.Run) (k : KernelState → rules.Run) → ((s : KernelState) → Stops (k s)) → Stops (rules.and_then r k)
 unfolding rules.and_then
@@ -181,9 +180,9 @@ then_stops r k h = go r.outcome
   where
     go : (o : rules.Outcome) → Stops (rules.on_ran o (record { outcome = o; state = r.state; events = r.events }) (rules.after r.events (k r.state)))
     go rules.ran = h r.state
-    go rules.left = inl refl
-    go (rules.halt x) = inr (inl refl)
-    go (rules.ended ms) = inr (inr refl)
+    go rules.left = λ e. cc
+    go (rules.halt x) = λ e. cc
+    go (rules.ended ms) = λ e. cc
 
 pub end_stops : (l : Log) (s : KernelState) (a : Step) (w : List ℕ) → actual a w ≡ expected l (end_of_data s) → Stopped a.outcome
 unfolding expected end_of_data
@@ -215,7 +214,7 @@ module _ (l : Log) (cfg : Config) (rows : List ℕ) (i : ℕ) (row : KernelTick)
 
   pub settle-past : sum ≡ None → actual (record { outcome = Halt LedgerOverflow; state = t; raised = n }) w ≡ expected l (worked Settle cfg rows i row s)
   unfolding settle_row pick expected append_events
-  settle-past g = then_stop l (settle_row cfg i row s) (next_row cfg rows) (record { outcome = Halt LedgerOverflow; state = t; raised = n }) w (rw (fits_none (row.bid + row.ask) (sym f ∙ g)) at (walked ends)) (inr (inl refl))
+  settle-past g = then_stop l (settle_row cfg i row s) (next_row cfg rows) (record { outcome = Halt LedgerOverflow; state = t; raised = n }) w (rw (fits_none (row.bid + row.ask) (sym f ∙ g)) at (walked ends)) (λ e. cc)
 
   -- it is written: then the next row
   pub settle_is : (m : ℕ) → sum ≡ Some m → (v : List ℕ) (k : ℕ) → log_at v k ≡ append_event (log_at w n) (RowEnd i row.ts_ns) → expected (log_at v k) (next_row cfg rows t) ≡ expected l (worked Settle cfg rows i row s)

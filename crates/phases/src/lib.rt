@@ -1,4 +1,6 @@
 // The phases of a row: what a turn has to do, the row's opening, its observation's time, and the row after it.
+#![tactic(auto)]
+
 ghost use Rattle.std.specs.Prelude.{false, ◌≡◌, List, ℕ, ◌<◌};
 ghost use Rattle.book.specs.Capacities.{observed_capacity};
 ghost use Rattle.book.specs.declared.config.Config.{Config};
@@ -39,14 +41,14 @@ fn row_at(rows: &[u64], index: u64) -> MaybeTick
 }
 
 // What is to be done with the current row.
-#[derive(Drop)]
+#[derive(Clone, Copy)]
 pub enum Work {
     Match,
     Settle,
 }
 
 // What a turn of the phases has to do: nothing, for the run waits or is over; to fail; to take the first row; or to work on the current one.
-#[derive(Drop)]
+#[derive(Clone, Copy)]
 pub enum Job {
     Stop,
     Fail,
@@ -90,7 +92,7 @@ pub fn job_of(control: Control, rows: &[u64]) -> Job
 }
 
 // Where the next row leads: to the end of the data, or on, to it or to truncation.
-#[derive(Drop)]
+#[derive(Clone, Copy)]
 pub enum Onward {
     End,
     To(Control),
@@ -115,7 +117,7 @@ pub fn next_row(cfg: Config, rows: &[u64], c: Control) -> Onward
 }
 
 // What a row's opening changes of the state.
-#[derive(Drop)]
+#[derive(Clone, Copy)]
 pub struct Opened {
     pub outcome: Outcome,
     pub venue: Venue,
@@ -161,7 +163,7 @@ pub fn open_row(row: KernelTick, venue: Venue) -> Opened
 }
 
 // What an observation's time changes of the state, before it joins the others.
-#[derive(Drop)]
+#[derive(Clone, Copy)]
 pub struct ObsTime {
     pub outcome: Outcome,
     pub venue: Venue,

@@ -2,12 +2,9 @@
 use Prim.Native.Nat.{ℕ, ◌+◌}
 use mathlib.Core.Path.{◌≡◌, refl, sym, ap, ◌∙◌, subst}
 use mathlib.Core.Bool.{true, false}
-use mathlib.Core.List.{List, [], ◌∷◌, ◌++◌, append_assoc}
-use mathlib.Core.Logic.{⊎_elim}
+use mathlib.Core.List.{List, ◌++◌, append_assoc}
 use mathlib.Core.Option.{none, some}
 use native.Mathlib.Omega.{arith}
-use types.Run.{OneOf}
-use denote.Enum.Declared.{tag_of}
 use Rattle.numbers.specs.Words.{fits, fitting}
 use Rattle.numbers.specs.declared.MaybeU64.{MaybeU64}
 use Rattle.numbers.specs.declared.MaybeU64.TheVariants.{None, Some}
@@ -59,10 +56,10 @@ after-ran l r k e = rw e (ap (λ (g : Log). record { outcome = outcome_of (k r.s
 
 -- it did not run to its end
 abbrev pub Stopped : Outcome → Type 0
-Stopped o = OneOf (1 ∷ 2 ∷ 3 ∷ []) (tag_of Rattle.reports.specs.contracts.Outcome.the_type o)
+Stopped o = o ≡ Ran → ⊥
 
 pub not_ran : {A : Type 0} (o : Outcome) → Stopped o → o ≡ Ran → A
-not_ran o m e = absurd (⊎_elim (λ z. omega arith) (λ y. ⊎_elim (λ z. omega arith) (λ z. omega arith) y) (subst Stopped e m))
+not_ran o m e = absurd (m e)
 
 after_stop : (l : Log) (r : rules.Run) (k : KernelState → rules.Run) (o : rules.Outcome) → r.outcome ≡ o → Stopped (outcome_of o) → rules.and_then r k ≡ r
 unfolding rules.and_then

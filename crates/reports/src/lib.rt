@@ -1,11 +1,13 @@
 // How a step of the kernel goes, the log that it writes, and the reports that it sends (step.rs of the Rust).
+#![tactic(auto)]
+
 pub mod log;
 pub mod report;
 
 use state::{Clock, Counters, GateState, HaltReason, KernelState, Seqs};
 
 // How a step went: to its end; left by an observation that paused or truncated; halted; or at the end of the data.
-#[derive(Drop)]
+#[derive(Clone, Copy)]
 pub enum Outcome {
     Ran,
     Left,
@@ -14,7 +16,7 @@ pub enum Outcome {
 }
 
 // What a step over the whole state gives: how it went, the state, and how many events the call has raised so far.
-#[derive(Drop)]
+#[derive(Clone, Copy)]
 pub struct Step {
     pub outcome: Outcome,
     pub state: KernelState,
@@ -22,7 +24,7 @@ pub struct Step {
 }
 
 // What the venue's steps change of the state beside the lists.
-#[derive(Drop)]
+#[derive(Clone, Copy)]
 pub struct Venue {
     pub rng_latency: u64,
     pub clock: Clock,

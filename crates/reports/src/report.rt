@@ -17,14 +17,14 @@ use numbers::words::{checked_add, max};
 use state::{Clock, HaltReason, KernelEvent, Seqs};
 
 // What a stamp changes.
-#[derive(Drop)]
+#[derive(Clone, Copy)]
 pub struct Stamped {
     pub outcome: Outcome,
     pub seqs: Seqs,
 }
 
 // What a report changes: the clock's `last_delivery_ns` is the time of its delivery.
-#[derive(Drop)]
+#[derive(Clone, Copy)]
 pub struct Reported {
     pub outcome: Outcome,
     pub rng_latency: u64,
@@ -33,7 +33,7 @@ pub struct Reported {
 }
 
 // A report that was told, with its delivery where it is on its way.
-#[derive(Drop)]
+#[derive(Clone, Copy)]
 pub struct Told {
     pub outcome: Outcome,
     pub venue: Venue,

@@ -19,7 +19,7 @@ use Rattle.state.specs.declared.KernelEvent.{KernelEvent}
 use Rattle.state.specs.declared.KernelState.{KernelState}
 use Rattle.state.specs.declared.Phase.{Phase}
 use Rattle.state.specs.declared.Phase.TheVariants.{BeforeMatch, ObsQueued, AwaitDecision, Terminal}
-use Rattle.rules.specs.Run.{Run, ran, ended, after, and_then, again, last}
+use Rattle.rules.specs.Run.{Run, ran, after, and_then, again, last}
 use Rattle.rules.specs.Report.{delayed}
 use Rattle.rules.specs.Matching.{filled_by, fill_counted, fill_event, fill_at, Fills, no_fill, fills, fails, fills_at, filling, match_at, match_from, leave, sweep_from, sweep, match_row}
 use Rattle.rules.specs.Delivery.{deliver_all, dropped_event, close_data, end_of_data}
@@ -60,7 +60,7 @@ module _ {x : ℕ} {p : Phase} {h : ℕ} where
   sweep_in : (j : ℕ) {n : ℕ} (l i : ℕ) (s : KernelState) → Kept x p h j n s → Within n (Kept x p h j) (sweep_from l i s)
   unfolding sweep_from
   sweep_in j zero i s k = ran_in k
-  sweep_in j (suc l) i s k = then_in (pick_in _ (leave_in j i s k) (ran_in k)) (λ m t g. sweep_in j l _ t g)
+  sweep_in j {n = n} (suc l) i s k = then_in (pick_in _ (leave_in j i s k) (ran_in k)) (λ m t g. sweep_in j {n = m} l _ t g)
 
   row_in : (j : ℕ) {n : ℕ} (c : Config) (row : KernelTick) (s : KernelState) → Kept x p h (5 * h + j) n s → Within n (Kept x p h j) (match_row c row s)
   unfolding match_row sweep

@@ -1,5 +1,5 @@
 -- 'Conservation', demand 3: what is claimed of every list of calls. The proof is proofs/Conservation.antt.
-use Rattle.std.specs.Prelude.{ℕ, ◌+◌, Bool, false, List, [], ◌∷◌, ◌≡◌, pos, ◌-ℤ◌}
+use Rattle.std.specs.Prelude.{ℕ, ◌+◌, false, List, [], ◌∷◌, ◌≡◌, pos, ◌-ℤ◌}
 use Rattle.lists.specs.Lists.{below, total}
 use Rattle.book.specs.Entries.{on_side, remaining, is_terminal}
 use Rattle.orders.specs.Rows.{orders_row}

@@ -1,4 +1,6 @@
 // What a line of a run file says, wherever it stands: the kinds of lines.
+#![tactic(auto)]
+
 ghost use Rattle.std.specs.Prelude.{◌≡◌, [], ◌∷◌, ◌≤◌, replicate};
 ghost use Rattle.text.specs.Cursor.{fields_from};
 ghost use Rattle.text.specs.Fields.{fields};
@@ -10,7 +12,7 @@ use book::{OrderState, Side, VenueOrder};
 use numbers::MaybeU64;
 use text::fields::{field_from, is_same, next_from, number_from};
 
-#[derive(Drop)]
+#[derive(Clone, Copy)]
 pub enum Line {
     Bad,
     // c quantum observation ack jitter seed s_max
@@ -25,14 +27,14 @@ pub enum Line {
     Row(KernelTick),
 }
 
-#[derive(Drop)]
+#[derive(Clone, Copy)]
 pub enum MaybeSide {
     None,
     Some(Side),
 }
 
 // Numbers that stand one behind the other, where each field writes one, and the place of the field behind them.
-#[derive(Drop)]
+#[derive(Clone, Copy)]
 struct Numbers {
     ok: bool,
     words: [u64; 6],
@@ -40,7 +42,7 @@ struct Numbers {
 }
 
 // The same where no field stands behind them.
-#[derive(Drop)]
+#[derive(Clone, Copy)]
 struct Words {
     ok: bool,
     words: [u64; 6],

@@ -1,4 +1,6 @@
 // A line of a run file, taken into what the lines before it have said: its place among them, and the limits.
+#![tactic(auto)]
+
 ghost use Rattle.std.specs.Prelude.{◌≡◌};
 ghost use Rattle.runtake.specs.Take.{bad, reserved, marked, marked_in, is_message_due, take_config, take_fill, take_order, take_cancel, row_taken, take_row, take_head};
 ghost use Rattle.runtake.specs.declared.Reading.{Reading};
@@ -12,20 +14,20 @@ use numbers::words::checked_add;
 use runline::Line;
 
 // The lots of each side, all quantities together within 64 bits.
-#[derive(Drop)]
+#[derive(Clone, Copy)]
 pub struct Lots {
     pub buy: u64,
     pub sell: u64,
 }
 
-#[derive(Drop)]
+#[derive(Clone, Copy)]
 pub enum Reserved {
     None,
     Some(Lots),
 }
 
 // What the lines so far have said. The rows stand in what the caller lent.
-#[derive(Drop)]
+#[derive(Clone, Copy)]
 pub struct Reading {
     pub cfg: Config,
     pub seed: u64,
@@ -35,7 +37,7 @@ pub struct Reading {
     pub rows: usize,
 }
 
-#[derive(Drop)]
+#[derive(Clone, Copy)]
 pub struct Taken {
     pub ok: bool,
     pub reading: Reading,

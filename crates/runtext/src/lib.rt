@@ -1,4 +1,6 @@
 // The run file of `replay` read whole, on a slice: its configuration, its rows and the state at the start. Nothing here opens a file.
+#![tactic(auto)]
+
 ghost use Rattle.std.specs.Prelude.{◌≡◌, ltb};
 ghost use Rattle.numbers.specs.Choice.{pick};
 ghost use Rattle.numbers.specs.declared.MaybeU64.TheVariants.{None, Some};
@@ -18,7 +20,7 @@ use state::{AgentView, Clock, Control, Counters, GateState, KernelState, Phase, 
 use text::fields::piece_end;
 
 // A run file: the number of its first bad line, or none; then the run.
-#[derive(Drop)]
+#[derive(Clone, Copy)]
 pub struct Script {
     pub bad: MaybeU64,
     pub cfg: Config,

@@ -1,5 +1,7 @@
 // The state of the advance (state.rs of the Rust, with the gate's of gate.rs and the agent's of ledger.rs), and the events that it raises.
 // The fields and names are the Rust's. Those of one purpose are grouped, since a field that is an enum is not stored to: the small struct around it is made anew.
+#![tactic(auto)]
+
 ghost use Rattle.std.specs.Prelude.{◌≡◌};
 ghost use Rattle.state.specs.Numbers.{is_terminal_phase};
 ghost use Rattle.state.specs.Numbers.{halt_number, refusal_number};
@@ -16,7 +18,7 @@ use numbers::position::Position;
 use observed::Observed;
 use orders::Orders;
 
-#[derive(Drop)]
+#[derive(Clone, Copy)]
 pub enum Phase {
     BeforeMatch,
     ObsQueued,
@@ -37,7 +39,7 @@ impl Phase {
     }
 }
 
-#[derive(Drop)]
+#[derive(Clone, Copy)]
 pub enum HaltReason {
     LedgerOverflow,
     TimeOverflow,
@@ -57,7 +59,7 @@ impl HaltReason {
     }
 }
 
-#[derive(Drop)]
+#[derive(Clone, Copy)]
 pub enum Status {
     Running,
     EndOfData,
@@ -66,7 +68,7 @@ pub enum Status {
 }
 
 // Where the advance stands.
-#[derive(Drop)]
+#[derive(Clone, Copy)]
 pub struct Control {
     pub phase: Phase,
     pub resume: Phase,
@@ -145,7 +147,7 @@ impl Control {
 }
 
 // The time, and the times of the last delivery and the last observation that were queued.
-#[derive(Drop)]
+#[derive(Clone, Copy)]
 pub struct Clock {
     pub now_ns: u64,
     pub last_delivery_ns: u64,
@@ -153,7 +155,7 @@ pub struct Clock {
 }
 
 // The next number of each kind that the venue gives out.
-#[derive(Drop)]
+#[derive(Clone, Copy)]
 pub struct Seqs {
     pub stamp_seq: u64,
     pub next_msg_seq: u64,
@@ -161,7 +163,7 @@ pub struct Seqs {
 }
 
 // The venue's position, the live lots of each side and the last mark, in half ticks.
-#[derive(Drop)]
+#[derive(Clone, Copy)]
 pub struct GateState {
     pub venue_pos: Position,
     pub live_buy_lots: u64,
@@ -170,7 +172,7 @@ pub struct GateState {
 }
 
 // What the agent knows: updated by each delivery and each observation.
-#[derive(Drop)]
+#[derive(Clone, Copy)]
 pub struct AgentView {
     pub pos: Position,
     pub last_obs_row: MaybeU64,
@@ -178,7 +180,7 @@ pub struct AgentView {
     pub delivered_fills: u64,
 }
 
-#[derive(Drop)]
+#[derive(Clone, Copy)]
 pub struct Counters {
     pub halts: u64,
     pub venue_fills: u64,
@@ -186,7 +188,7 @@ pub struct Counters {
     pub eof_dropped_obs: u64,
 }
 
-#[derive(Drop)]
+#[derive(Clone, Copy)]
 pub struct KernelState {
     pub control: Control,
     pub clock: Clock,
@@ -204,7 +206,7 @@ pub struct KernelState {
 }
 
 // The events, in the order of the paper's numbers, 1 to 10.
-#[derive(Drop)]
+#[derive(Clone, Copy)]
 pub enum KernelEvent {
     Report(ReportRec),
     Fill(FillRec),
@@ -219,7 +221,7 @@ pub enum KernelEvent {
 }
 
 // Why a call is refused, in the order of the paper's numbers, from 101.
-#[derive(Drop)]
+#[derive(Clone, Copy)]
 pub enum Refusal {
     RowWords,
     ListCount,

@@ -9,7 +9,7 @@ use numbers::MaybeU64;
 const SPACE: u8 = 32;
 
 // A number that was read, and the place of the field behind it.
-#[derive(Drop)]
+#[derive(Clone, Copy)]
 pub struct NumberFrom {
     pub value: MaybeU64,
     pub next: usize,
@@ -105,8 +105,8 @@ pub fn number(f: &[u8]) -> MaybeU64
 
 // The number in the first of the fields from place `at` on, and the place of the field behind it, in one walk.
 pub fn number_from(l: &[u8], at: usize) -> NumberFrom
-    ensures value_value { result.value ≡ number (get_or (fields_from l.now at) 0 []) }
-    ensures next_value { fields_from l.now result.next ≡ drop 1 (fields_from l.now at) }
+    ensures value { result.value ≡ number (get_or (fields_from l.now at) 0 []) }
+    ensures next { fields_from l.now result.next ≡ drop 1 (fields_from l.now at) }
 {
     if at > l.len() {
         return NumberFrom {

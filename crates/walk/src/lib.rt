@@ -1,4 +1,6 @@
 // The walk over the three queues: which event is next, and what an observation does.
+#![tactic(auto)]
+
 ghost use Rattle.std.specs.Prelude.{◌≡◌, List, ℕ};
 ghost use Rattle.book.specs.declared.config.Config.{Config};
 ghost use Rattle.state.specs.declared.KernelState.{KernelState};
@@ -18,7 +20,7 @@ use reports::log::emit;
 use state::{AgentView, Control, KernelEvent, Status};
 
 // Event classes, in their order at equal times.
-#[derive(Drop)]
+#[derive(Clone, Copy)]
 pub enum Class {
     Venue,
     Delivery,
@@ -26,14 +28,14 @@ pub enum Class {
 }
 
 // The next event that is due, with its time.
-#[derive(Drop)]
+#[derive(Clone, Copy)]
 pub enum Next {
     Nothing,
     At(Class, u64),
 }
 
 // What a look at an observation changes of the state.
-#[derive(Drop)]
+#[derive(Clone, Copy)]
 pub struct Looked {
     pub control: Control,
     pub agent: AgentView,

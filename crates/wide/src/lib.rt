@@ -1,10 +1,12 @@
 // Numbers of two words, for the Rust's u128: the queue rule is exact past 64 bits by them.
+#![tactic(auto)]
+
 ghost use Rattle.std.specs.Prelude.{◌≡◌, ◌-◌, ◌*◌, ◌/◌, ◌<◌, min, ltb};
 ghost use Rattle.wide.specs.Wide.{value};
 
 use numbers::words::{high_mul, wrapping_mul};
 
-#[derive(Drop)]
+#[derive(Clone, Copy)]
 pub struct Wide {
     pub hi: u64,
     pub lo: u64,

@@ -1,4 +1,6 @@
 // Text written into what the caller lends, from a place on: each writer answers the next place. A byte past the end is not written.
+#![tactic(auto)]
+
 ghost use Rattle.std.specs.Prelude.{◌≡◌, [], ◌∷◌, ◌+◌, ◌≤◌, length, drop};
 ghost use Rattle.write.specs.Write.{text_at, texted, decimal, signed};
 
@@ -51,7 +53,7 @@ pub fn put_bytes(out: &mut [u8], at: usize, s: &[u8]) -> usize
 }
 
 // The digits of a number at the end of a row, from place `first` on. 64 bits have at most 20.
-#[derive(Drop)]
+#[derive(Clone, Copy)]
 struct Digits {
     row: [u8; 20],
     first: usize,

@@ -1,7 +1,6 @@
 -- `batch::run` meets its contract: what is left to run gives what the whole gives, call by call. Assumes nothing.
 use Prim.Native.Nat.{ℕ, ◌+◌, ◌-◌, ◌*◌, ◌/◌, ◌≤◌, ◌<◌}
 use mathlib.Core.Bool.{false}
-use mathlib.Core.Logic.{⊎_elim, inl, inr}
 use mathlib.Core.Option.{some}
 use mathlib.Core.Path.{◌≡◌, refl, sym, ap, ◌∙◌, subst}
 use native.Mathlib.Omega.{arith}
@@ -49,35 +48,36 @@ use Rattle.batch.specs.Batch.{actual_run}
 use borrow.Author.Rules.{rules}
 use Rattle.batch.proofs.run.Statement.{statement}
 use Rattle.batch.proofs.run.Tie as tie
+use Rattle.batch.proofs.run.Lts.{in_default-outcome-2, in-Ran-outcome-2+in_default-next, then-any_terminal+in-Ran-outcome-6, else-any_terminal, in-First, in-Row+in-Ran-outcome-3+in-Settle+in-Some}
 
-abbrev invariant-loop2 : tie.invariant-loop2
-invariant-loop2 cfg rows log passes answer control v orders msgs awaiting deliveries₀ observed agent account mode records left before n work index row time now-ns delivery end i₀ deliveries i =
+abbrev invariant-loop2 : tie.invariant-loop-i
+invariant-loop2 cfg rows log passes answer control v orders msgs awaiting deliveries₀ observed agent account mode records left before n work index row time now_ns delivery end i₀ deliveries i =
     Removing blank_delivery 0 deliveries₀.count deliveries₀.slots i deliveries.slots × (length deliveries.slots ≡ 24)
 
-abbrev decreases-loop2 : tie.decreases-loop2
-decreases-loop2 cfg rows log passes answer control v orders msgs awaiting deliveries₀ observed agent account mode records left before n work index row time now-ns delivery end i₀ deliveries i = end - i
+abbrev decreases-loop2 : tie.decreases-loop-i
+decreases-loop2 cfg rows log passes answer control v orders msgs awaiting deliveries₀ observed agent account mode records left before n work index row time now_ns delivery end i₀ deliveries i = end - i
 
-abbrev invariant-loop3 : tie.invariant-loop3
-invariant-loop3 cfg rows log passes answer control v orders msgs awaiting deliveries observed₀ agent account mode records left before n outcome index time now-ns entry end i₀ observed i =
+abbrev invariant-loop3 : tie.invariant-loop-i-2
+invariant-loop3 cfg rows log passes answer control v orders msgs awaiting deliveries observed₀ agent account mode records left before n outcome index time now_ns entry end i₀ observed i =
     Removing blank_obs 0 observed₀.count observed₀.slots i observed.slots × (length observed.slots ≡ 16)
 
-abbrev decreases-loop3 : tie.decreases-loop3
-decreases-loop3 cfg rows log passes answer control v orders msgs awaiting deliveries observed₀ agent account mode records left before n outcome index time now-ns entry end i₀ observed i = end - i
+abbrev decreases-loop3 : tie.decreases-loop-i-2
+decreases-loop3 cfg rows log passes answer control v orders msgs awaiting deliveries observed₀ agent account mode records left before n outcome index time now_ns entry end i₀ observed i = end - i
 
-abbrev invariant-loop : tie.invariant-loop
+abbrev invariant-loop : tie.invariant-loop-outcome
 invariant-loop cfg rows log₀ passes answer control₀ v₀ orders₀ msgs₀ awaiting₀ deliveries₀ observed₀ agent₀ account₀ mode records left before n₀ outcome₀ work index row log control v orders msgs awaiting deliveries observed agent account n outcome =
     ((k : KernelState → Run) → steps_on outcome (log_at log n) (state_of control v orders msgs awaiting deliveries observed agent account) (λ u. and_then (run_events cfg row.ts_ns u) k) ≡ expected (log_at log₀ n₀) (and_then (run_events cfg row.ts_ns (state_of control₀ v₀ orders₀ msgs₀ awaiting₀ deliveries₀ observed₀ agent₀ account₀)) k))
     × (control ≡ control₀) × (length log ≡ length log₀) × (length deliveries.slots ≡ 24) × (length observed.slots ≡ 16)
 
-abbrev decreases-loop : tie.decreases-loop
+abbrev decreases-loop : tie.decreases-loop-outcome
 decreases-loop cfg rows log₀ passes answer control₀ v₀ orders₀ msgs₀ awaiting₀ deliveries₀ observed₀ agent₀ account₀ mode records left before n₀ outcome₀ work index row log control v orders msgs awaiting deliveries observed agent account n outcome = fuel outcome (weight (state_of control v orders msgs awaiting deliveries observed agent account))
 
-abbrev invariant-loop4 : tie.invariant-loop4
+abbrev invariant-loop4 : tie.invariant-loop-i-3
 invariant-loop4 cfg rows log₀ passes answer control v₀ orders₀ msgs awaiting deliveries₀ observed agent account mode records left before n₀ index row count i₀ log v orders deliveries n i =
     ((k : KernelState → Run) → expected (log_at log n) (and_then (match_from cfg row (count - i) i (state_of control v orders msgs awaiting deliveries observed agent account)) k) ≡ expected (log_at log₀ n₀) (and_then (match_from cfg row count 0 (state_of control v₀ orders₀ msgs awaiting deliveries₀ observed agent account)) k))
     × (orders.count ≡ orders₀.count) × (i ≤ count) × (length log ≡ length log₀) × (length deliveries.slots ≡ 24)
 
-abbrev decreases-loop4 : tie.decreases-loop4
+abbrev decreases-loop4 : tie.decreases-loop-i-3
 decreases-loop4 cfg rows log₀ passes answer control v₀ orders₀ msgs awaiting deliveries₀ observed agent account mode records left before n₀ index row count i₀ log v orders deliveries n i = count - i
 
 abbrev invariant-phases : tie.invariant-phases
@@ -93,343 +93,348 @@ abbrev at-phases : tie.At-phases invariant-loop2 decreases-loop2 invariant-loop3
 at-phases c = state_of c.phases.control c.phases.v c.phases.orders c.phases.msgs c.phases.awaiting c.phases.deliveries c.phases.observed c.phases.agent c.phases.account
 
 -- the state in the walk
-abbrev at-loop : tie.At-loop invariant-loop2 decreases-loop2 invariant-loop3 decreases-loop3 invariant-loop decreases-loop invariant-loop4 decreases-loop4 invariant-phases decreases-phases → KernelState
-at-loop c = state_of c.loop.control c.loop.v c.loop.orders c.loop.msgs c.loop.awaiting c.loop.deliveries c.loop.observed c.loop.agent c.loop.account
+abbrev at-loop : tie.At-loop-outcome invariant-loop2 decreases-loop2 invariant-loop3 decreases-loop3 invariant-loop decreases-loop invariant-loop4 decreases-loop4 invariant-phases decreases-phases → KernelState
+at-loop c = state_of c.loop-outcome.control c.loop-outcome.v c.loop-outcome.orders c.loop-outcome.msgs c.loop-outcome.awaiting c.loop-outcome.deliveries c.loop-outcome.observed c.loop-outcome.agent c.loop-outcome.account
 
 -- the state in the match pass
-abbrev at-pass : tie.At-loop4 invariant-loop2 decreases-loop2 invariant-loop3 decreases-loop3 invariant-loop decreases-loop invariant-loop4 decreases-loop4 invariant-phases decreases-phases → KernelState
-at-pass c = let b11 = c.before.before.before.before.before.before.before.before.before.before.before in state_of b11.loop.control c.loop4.v c.loop4.orders b11.loop.msgs b11.loop.awaiting c.loop4.deliveries b11.loop.observed b11.loop.agent b11.loop.account
+abbrev at-pass : tie.At-loop-i-3 invariant-loop2 decreases-loop2 invariant-loop3 decreases-loop3 invariant-loop decreases-loop invariant-loop4 decreases-loop4 invariant-phases decreases-phases → KernelState
+at-pass c = state_of c.loop-outcome.control c.loop-i-3.v c.loop-i-3.orders c.loop-outcome.msgs c.loop-outcome.awaiting c.loop-i-3.deliveries c.loop-outcome.observed c.loop-outcome.agent c.loop-outcome.account
 
 -- what the whole batch leaves
-abbrev whole : (c : tie.After-account invariant-loop2 decreases-loop2 invariant-loop3 decreases-loop3 invariant-loop decreases-loop invariant-loop4 decreases-loop4 invariant-phases decreases-phases) →
+abbrev whole : (c : tie.After-account-1 invariant-loop2 decreases-loop2 invariant-loop3 decreases-loop3 invariant-loop decreases-loop invariant-loop4 decreases-loop4 invariant-phases decreases-phases) →
     Final
 whole c =
-    let b7 = c.before.before.before.before.before.before.before in let b15 = b7.before.before.before.before.before.before.before.before in after_call b15.args.cfg b15.args.rows.now (length b15.args.log.now / 12) b15.args.passes 0 (expected (log_at b15.args.log.now 0) (phases b15.args.cfg b15.args.rows.now (state_of b15.args.state.control b7.venue-of.result b15.args.state.orders b15.args.state.msgs b15.args.state.awaiting b15.args.state.deliveries b15.args.state.observed b15.args.state.agent b15.args.state.account)))
+    after_call c.args.cfg c.args.rows.now (length c.args.log.now / 12) c.args.passes 0 (expected (log_at c.args.log.now 0) (phases c.args.cfg c.args.rows.now (state_of c.args.state.control c.venue_of-v.result c.args.state.orders c.args.state.msgs c.args.state.awaiting c.args.state.deliveries c.args.state.observed c.args.state.agent c.args.state.account)))
 
 -- the turn works on a row
-turn : (c : tie.After-job invariant-loop2 decreases-loop2 invariant-loop3 decreases-loop3 invariant-loop decreases-loop invariant-loop4 decreases-loop4 invariant-phases decreases-phases) →
-    let b5 = c.before.before.before.before.before in let b21 = b5.before.before.before.before.before.before.before.before.before.before.before.before.before.before.before.before in phase_turn b21.args.cfg b21.args.rows.now (at-phases b5) ≡ again (worked c.job.given.0.0 b21.args.cfg b21.args.rows.now c.job.given.0.1.0 c.job.given.0.1.1.0 (at-phases b5))
+turn : (c : tie.In-Row invariant-loop2 decreases-loop2 invariant-loop3 decreases-loop3 invariant-loop decreases-loop invariant-loop4 decreases-loop4 invariant-phases decreases-phases) →
+    phase_turn c.args.cfg c.args.rows.now (at-phases c.before.before.before) ≡ again (worked c.in-Row.work c.args.cfg c.args.rows.now c.in-Row.index c.in-Row.row (at-phases c.before.before.before))
 turn c =
-    let b2 = c.before.before in let b5 = b2.before.before.before in let b21 = b5.before.before.before.before.before.before.before.before.before.before.before.before.before.before.before.before in turn_of b21.args.cfg b21.args.rows.now (at-phases b5) b2.Job-of.result (b2.Job-of.ensures b21.args.cfg (at-phases b5)) c.job.given.1
+    turn_of c.args.cfg c.args.rows.now (at-phases c.before.before.before) c.job_of-job.result (c.job_of-job.ensures c.args.cfg (at-phases c.before.before.before)) c.in-Row.is
 
 -- so it does not wait for a decision
-waits-not : (c : tie.At-loop invariant-loop2 decreases-loop2 invariant-loop3 decreases-loop3 invariant-loop decreases-loop invariant-loop4 decreases-loop4 invariant-phases decreases-phases) →
-    is_paused c.loop.control.phase ≡ false
+waits-not : (c : tie.At-loop-outcome invariant-loop2 decreases-loop2 invariant-loop3 decreases-loop3 invariant-loop decreases-loop invariant-loop4 decreases-loop4 invariant-phases decreases-phases) →
+    is_paused c.loop-outcome.control.phase ≡ false
 waits-not c =
-    let b2 = c.before.before in let b7 = b2.before.before.before.before.before in let b23 = b7.before.before.before.before.before.before.before.before.before.before.before.before.before.before.before.before in subst (λ (x : Control). is_paused x.phase ≡ false) (sym c.loop.invariant.1) (again_not_paused b23.args.cfg b23.args.rows.now (at-phases b7) _ (turn b2))
+    subst (λ (x : Control). is_paused x.phase ≡ false) (sym c.loop-outcome.invariant.1) (again_not_paused c.args.cfg c.args.rows.now (at-phases c.before.before.before.before) _ (turn c.before))
 
 -- the walk goes on: what is left of it gives what the whole gives
-walk-goes : (c : tie.After-enum-told8 invariant-loop2 decreases-loop2 invariant-loop3 decreases-loop3 invariant-loop decreases-loop invariant-loop4 decreases-loop4 invariant-phases decreases-phases) →
-    let b2 = c.before.before in let b4 = b2.before.before in let b9 = b4.before.before.before.before.before in let b25 = b9.before.before.before.before.before.before.before.before.before.before.before.before.before.before.before.before in (k : KernelState → Run) → expected (log_at b2.loop.log b2.loop.n) (and_then (run_events b25.args.cfg b4.job.given.0.1.1.0.ts_ns (at-loop b2)) k) ≡ expected (log_at b9.phases.log b9.phases.n) (and_then (run_events b25.args.cfg b4.job.given.0.1.1.0.ts_ns (at-phases b9)) k)
+walk-goes : (c : tie.In-Ran-outcome-2 invariant-loop2 decreases-loop2 invariant-loop3 decreases-loop3 invariant-loop decreases-loop invariant-loop4 decreases-loop4 invariant-phases decreases-phases) →
+    (k : KernelState → Run) → expected (log_at c.loop-outcome.log c.loop-outcome.n) (and_then (run_events c.args.cfg c.in-Row.row.ts_ns (at-loop c.before)) k) ≡ expected (log_at c.phases.log c.phases.n) (and_then (run_events c.args.cfg c.in-Row.row.ts_ns (at-phases c.before.before.before.before.before)) k)
 walk-goes c =
-    let b2 = c.before.before in let b4 = b2.before.before in let b25 = b4.before.before.before.before.before.before.before.before.before.before.before.before.before.before.before.before.before.before.before.before.before in λ k. steps_ran b2.loop.outcome c.enum-told8.given.1 (log_at b2.loop.log b2.loop.n) (at-loop b2) (λ u. and_then (run_events b25.args.cfg b4.job.given.0.1.1.0.ts_ns u) k) ∙ b2.loop.invariant.0 k
+    λ k. steps_ran c.loop-outcome.outcome c.in-Ran-outcome-2.is (log_at c.loop-outcome.log c.loop-outcome.n) (at-loop c.before) (λ u. and_then (run_events c.args.cfg c.in-Row.row.ts_ns u) k) ∙ c.loop-outcome.invariant.0 k
 
 -- a delivery is next: the list has one
-due-del : (c : tie.After-enum-told12 invariant-loop2 decreases-loop2 invariant-loop3 decreases-loop3 invariant-loop decreases-loop invariant-loop4 decreases-loop4 invariant-phases decreases-phases) →
-    let b10 = c.before.before.before.before.before.before.before.before.before.before in (0 < b10.loop.deliveries.count) × (b10.loop.deliveries.count ≤ 24)
+due-del : (c : tie.In-Delivery invariant-loop2 decreases-loop2 invariant-loop3 decreases-loop3 invariant-loop decreases-loop invariant-loop4 decreases-loop4 invariant-phases decreases-phases) →
+    (0 < c.loop-outcome.deliveries.count) × (c.loop-outcome.deliveries.count ≤ 24)
 due-del c =
-    let b5 = c.before.before.before.before.before in let b7 = b5.before.before in let b10 = b7.before.before.before in let b12 = b10.before.before in let b33 = b12.before.before.before.before.before.before.before.before.before.before.before.before.before.before.before.before.before.before.before.before.before in due-delivery b12.job.given.0.1.1.0.ts_ns (at-loop b10) _ (next-is b33.args.cfg b12.job.given.0.1.1.0.ts_ns (at-loop b10) b7.next_of.result (b7.next_of.ensures (at-loop b10)) b10.loop.log b10.loop.n _ _ b5.next.given.1 Delivery c.enum-told12.given.1)
+    due-delivery c.in-Row.row.ts_ns (at-loop c.before.before.before.before.before.before) _ (next-is c.args.cfg c.in-Row.row.ts_ns (at-loop c.before.before.before.before.before.before) c.next_of-next.result (c.next_of-next.ensures (at-loop c.before.before.before.before.before.before)) c.loop-outcome.log c.loop-outcome.n _ _ c.in-At.is Delivery c.in-Delivery.is)
 
 -- an observation is next: the list has one
-due-obs : (c : tie.After-enum-told13 invariant-loop2 decreases-loop2 invariant-loop3 decreases-loop3 invariant-loop decreases-loop invariant-loop4 decreases-loop4 invariant-phases decreases-phases) →
-    let b10 = c.before.before.before.before.before.before.before.before.before.before in (0 < b10.loop.observed.count) × (b10.loop.observed.count ≤ 16)
+due-obs : (c : tie.In-Observation invariant-loop2 decreases-loop2 invariant-loop3 decreases-loop3 invariant-loop decreases-loop invariant-loop4 decreases-loop4 invariant-phases decreases-phases) →
+    (0 < c.loop-outcome.observed.count) × (c.loop-outcome.observed.count ≤ 16)
 due-obs c =
-    let b5 = c.before.before.before.before.before in let b7 = b5.before.before in let b10 = b7.before.before.before in let b12 = b10.before.before in let b33 = b12.before.before.before.before.before.before.before.before.before.before.before.before.before.before.before.before.before.before.before.before.before in due-observation b12.job.given.0.1.1.0.ts_ns (at-loop b10) _ (next-is b33.args.cfg b12.job.given.0.1.1.0.ts_ns (at-loop b10) b7.next_of.result (b7.next_of.ensures (at-loop b10)) b10.loop.log b10.loop.n _ _ b5.next.given.1 Observation c.enum-told13.given.1)
+    due-observation c.in-Row.row.ts_ns (at-loop c.before.before.before.before.before.before) _ (next-is c.args.cfg c.in-Row.row.ts_ns (at-loop c.before.before.before.before.before.before) c.next_of-next.result (c.next_of-next.ensures (at-loop c.before.before.before.before.before.before)) c.loop-outcome.log c.loop-outcome.n _ _ c.in-At.is Observation c.in-Observation.is)
 
 -- a message: its delivery has a slot
-slot-free : (c : tie.After-slot invariant-loop2 decreases-loop2 invariant-loop3 decreases-loop3 invariant-loop decreases-loop invariant-loop4 decreases-loop4 invariant-phases decreases-phases) →
-    let b10 = c.before.before.before.before.before.before.before.before.before.before in let b22 = b10.before.before.before.before.before.before.before.before.before.before.before.before in (c.slot.given.0.0 < 24) × (record { slots = set b22.loop.deliveries.slots c.slot.given.0.0 c.slot.given.0.1.0; count = c.slot.given.0.0 + 1 } ≡ sent_to b10.act.result.told.sent b22.loop.deliveries)
+slot-free : (c : tie.In-At-slot invariant-loop2 decreases-loop2 invariant-loop3 decreases-loop3 invariant-loop decreases-loop invariant-loop4 decreases-loop4 invariant-phases decreases-phases) →
+    (c.in-At-slot.at < 24) × (record { slots = set c.loop-outcome.deliveries.slots c.in-At-slot.at c.in-At-slot.delivery; count = c.in-At-slot.at + 1 } ≡ sent_to c.act-a.result.told.sent c.loop-outcome.deliveries)
 slot-free c =
-    let b2 = c.before.before in let b10 = b2.before.before.before.before.before.before.before.before in let b22 = b10.before.before.before.before.before.before.before.before.before.before.before.before in slot_in b10.act.result.told.sent b22.loop.deliveries b2.slot_of.result b2.slot_of.ensures b22.loop.invariant.3 _ _ c.slot.given.1
+    slot_in c.act-a.result.told.sent c.loop-outcome.deliveries c.slot_of-slot.result c.slot_of-slot.ensures c.loop-outcome.invariant.3 _ _ c.in-At-slot.is
 
 -- a message, with its delivery on its way: the walk goes on, or stops
-acts : (c : tie.After-slot-of invariant-loop2 decreases-loop2 invariant-loop3 decreases-loop3 invariant-loop decreases-loop invariant-loop4 decreases-loop4 invariant-phases decreases-phases) →
-    let b8 = c.before.before.before.before.before.before.before.before in let b20 = b8.before.before.before.before.before.before.before.before.before.before.before.before in let b22 = b20.before.before in let b27 = b22.before.before.before.before.before in let b43 = b27.before.before.before.before.before.before.before.before.before.before.before.before.before.before.before.before in (d1 : Deliveries) → d1 ≡ sent_to b8.act.result.told.sent b20.loop.deliveries → (fuel b8.act.result.told.outcome (weight (state_of b20.loop.control b8.act.result.told.venue b8.act.result.orders b8.act.result.msgs b8.act.result.awaiting d1 b20.loop.observed b20.loop.agent b20.loop.account)) < fuel b20.loop.outcome (weight (at-loop b20))) × ((k : KernelState → Run) → steps_on b8.act.result.told.outcome (log_at b8.act.new.0 b8.act.result.told.raised) (state_of b20.loop.control b8.act.result.told.venue b8.act.result.orders b8.act.result.msgs b8.act.result.awaiting d1 b20.loop.observed b20.loop.agent b20.loop.account) (λ u. and_then (run_events b43.args.cfg b22.job.given.0.1.1.0.ts_ns u) k) ≡ expected (log_at b27.phases.log b27.phases.n) (and_then (run_events b43.args.cfg b22.job.given.0.1.1.0.ts_ns (at-phases b27)) k))
+acts : (c : tie.After-slot_of-slot invariant-loop2 decreases-loop2 invariant-loop3 decreases-loop3 invariant-loop decreases-loop invariant-loop4 decreases-loop4 invariant-phases decreases-phases) →
+    (d1 : Deliveries) → d1 ≡ sent_to c.act-a.result.told.sent c.loop-outcome.deliveries → (fuel c.act-a.result.told.outcome (weight (state_of c.loop-outcome.control c.act-a.result.told.venue c.act-a.result.orders c.act-a.result.msgs c.act-a.result.awaiting d1 c.loop-outcome.observed c.loop-outcome.agent c.loop-outcome.account)) < fuel c.loop-outcome.outcome (weight (at-loop c.before.before.before.before.before.before.before.before.before.before.before.before.before.before.before.before))) × ((k : KernelState → Run) → steps_on c.act-a.result.told.outcome (log_at c.act-a.new.log c.act-a.result.told.raised) (state_of c.loop-outcome.control c.act-a.result.told.venue c.act-a.result.orders c.act-a.result.msgs c.act-a.result.awaiting d1 c.loop-outcome.observed c.loop-outcome.agent c.loop-outcome.account) (λ u. and_then (run_events c.args.cfg c.in-Row.row.ts_ns u) k) ≡ expected (log_at c.phases.log c.phases.n) (and_then (run_events c.args.cfg c.in-Row.row.ts_ns (at-phases c.before.before.before.before.before.before.before.before.before.before.before.before.before.before.before.before.before.before.before.before)) k))
 acts c =
-    let b8 = c.before.before.before.before.before.before.before.before in let b10 = b8.before.before in let b13 = b10.before.before.before in let b15 = b13.before.before in let b17 = b15.before.before in let b18 = b17.before in let b20 = b18.before.before in let b22 = b20.before.before in let b43 = b22.before.before.before.before.before.before.before.before.before.before.before.before.before.before.before.before.before.before.before.before.before in λ d1 h. (walk_spends b43.args.cfg b22.job.given.0.1.1.0.ts_ns (at-loop b20) b17.next_of.result (b17.next_of.ensures (at-loop b20)) b20.loop.log b20.loop.n _ _ b15.next.given.1 Venue b13.max.result b10.enum-told10.given.1 b13.max.ensures _ _ (acted b20.loop.log _ b20.loop.n b43.args.cfg b20.loop.control (clocked b13.max.result b20.loop.v) b20.loop.orders b20.loop.msgs b20.loop.awaiting b20.loop.deliveries b20.loop.observed b20.loop.agent b20.loop.account b8.act.result b8.act.ensures d1 h) b20.loop.outcome b18.enum-told8.given.1, λ k. walk_steps b43.args.cfg b22.job.given.0.1.1.0.ts_ns (at-loop b20) b17.next_of.result (b17.next_of.ensures (at-loop b20)) b20.loop.log b20.loop.n _ _ b15.next.given.1 Venue b13.max.result b10.enum-told10.given.1 b13.max.ensures _ _ (acted b20.loop.log _ b20.loop.n b43.args.cfg b20.loop.control (clocked b13.max.result b20.loop.v) b20.loop.orders b20.loop.msgs b20.loop.awaiting b20.loop.deliveries b20.loop.observed b20.loop.agent b20.loop.account b8.act.result b8.act.ensures d1 h) k ∙ walk-goes b18 k)
+    λ d1 h. (walk_spends c.args.cfg c.in-Row.row.ts_ns (at-loop c.before.before.before.before.before.before.before.before.before.before.before.before.before.before.before.before) c.next_of-next.result (c.next_of-next.ensures (at-loop c.before.before.before.before.before.before.before.before.before.before.before.before.before.before.before.before)) c.loop-outcome.log c.loop-outcome.n _ _ c.in-At.is Venue c.max-now_ns.result c.in-Venue.is c.max-now_ns.ensures _ _ (acted c.loop-outcome.log _ c.loop-outcome.n c.args.cfg c.loop-outcome.control (clocked c.max-now_ns.result c.loop-outcome.v) c.loop-outcome.orders c.loop-outcome.msgs c.loop-outcome.awaiting c.loop-outcome.deliveries c.loop-outcome.observed c.loop-outcome.agent c.loop-outcome.account c.act-a.result c.act-a.ensures d1 h) c.loop-outcome.outcome c.in-Ran-outcome-2.is, λ k. walk_steps c.args.cfg c.in-Row.row.ts_ns (at-loop c.before.before.before.before.before.before.before.before.before.before.before.before.before.before.before.before) c.next_of-next.result (c.next_of-next.ensures (at-loop c.before.before.before.before.before.before.before.before.before.before.before.before.before.before.before.before)) c.loop-outcome.log c.loop-outcome.n _ _ c.in-At.is Venue c.max-now_ns.result c.in-Venue.is c.max-now_ns.ensures _ _ (acted c.loop-outcome.log _ c.loop-outcome.n c.args.cfg c.loop-outcome.control (clocked c.max-now_ns.result c.loop-outcome.v) c.loop-outcome.orders c.loop-outcome.msgs c.loop-outcome.awaiting c.loop-outcome.deliveries c.loop-outcome.observed c.loop-outcome.agent c.loop-outcome.account c.act-a.result c.act-a.ensures d1 h) k ∙ walk-goes c.before.before.before.before.before.before.before.before.before.before.before.before.before.before.before k)
 
 -- a pass looks at eight places at most
-looks-eight : (c : tie.After-looks invariant-loop2 decreases-loop2 invariant-loop3 decreases-loop3 invariant-loop decreases-loop invariant-loop4 decreases-loop4 invariant-phases decreases-phases) →
-    c.looks.result ≤ 8
+looks-eight : (c : tie.After-looks-count invariant-loop2 decreases-loop2 invariant-loop3 decreases-loop3 invariant-loop decreases-loop invariant-loop4 decreases-loop4 invariant-phases decreases-phases) →
+    c.looks-count.result ≤ 8
 looks-eight c =
-    let b10 = c.before.before.before.before.before.before.before.before.before.before in subst (λ (k : ℕ). k ≤ 8) (sym c.looks.ensures) (looks_few b10.loop.orders.count)
+    subst (λ (k : ℕ). k ≤ 8) (sym c.looks-count.ensures) (looks_few c.loop-outcome.orders.count)
 
 -- the order at the place of the pass
-there : (c : tie.In-loop4 invariant-loop2 decreases-loop2 invariant-loop3 decreases-loop3 invariant-loop decreases-loop invariant-loop4 decreases-loop4 invariant-phases decreases-phases) →
-    let b1 = c.before in entry_at 8 blank_order b1.loop4.i (orders_row b1.loop4.orders) ≡ some (get_or b1.loop4.orders.slots b1.loop4.i blank_order)
+there : (c : tie.In-loop-i-3 invariant-loop2 decreases-loop2 invariant-loop3 decreases-loop3 invariant-loop decreases-loop invariant-loop4 decreases-loop4 invariant-phases decreases-phases) →
+    entry_at 8 blank_order c.loop-i-3.i (orders_row c.loop-i-3.orders) ≡ some (get_or c.loop-i-3.orders.slots c.loop-i-3.i blank_order)
 there c =
-    let b1 = c.before in let b2 = b1.before in let b12 = b2.before.before.before.before.before.before.before.before.before.before in let z : b2.looks.result ≡ b12.loop.orders.count = b2.looks.ensures ∙ looks_is b12.loop.orders.count b1.loop4.i (subst (λ (k : ℕ). b1.loop4.i < k) b2.looks.ensures (omega (arith, c.loop4-test.true))) in sym (entry_in 8 (orders_row b1.loop4.orders) blank_order b1.loop4.i (omega (arith, looks-eight b2, z, b1.loop4.invariant.1)) (omega (arith, z, b1.loop4.invariant.1, c.loop4-test.true)))
+    let z : c.looks-count.result ≡ c.loop-outcome.orders.count = c.looks-count.ensures ∙ looks_is c.loop-outcome.orders.count c.loop-i-3.i (subst (λ (k : ℕ). c.loop-i-3.i < k) c.looks-count.ensures (omega (arith, c.loop-i-3-test.true))) in sym (entry_in 8 (orders_row c.loop-i-3.orders) blank_order c.loop-i-3.i (omega (arith, looks-eight c.before.before, z, c.loop-i-3.invariant.1)) (omega (arith, z, c.loop-i-3.invariant.1, c.loop-i-3-test.true)))
 
 -- what it fills is that order, and no more than remains
-filling : (c : tie.After-lots invariant-loop2 decreases-loop2 invariant-loop3 decreases-loop3 invariant-loop decreases-loop invariant-loop4 decreases-loop4 invariant-phases decreases-phases) →
-    let b5 = c.before.before.before.before.before in (c.lots.given.0.0 ≡ get_or b5.loop4.orders.slots b5.loop4.i blank_order) × (c.lots.given.0.1.0 ≤ remaining (get_or b5.loop4.orders.slots b5.loop4.i blank_order))
+filling : (c : tie.In-Take invariant-loop2 decreases-loop2 invariant-loop3 decreases-loop3 invariant-loop decreases-loop invariant-loop4 decreases-loop4 invariant-phases decreases-phases) →
+    (c.in-Take.field-0 ≡ get_or c.loop-i-3.orders.slots c.loop-i-3.i blank_order) × (c.in-Take.taken ≤ remaining (get_or c.loop-i-3.orders.slots c.loop-i-3.i blank_order))
 filling c =
-    let b2 = c.before.before in let b18 = b2.before.before.before.before.before.before.before.before.before.before.before.before.before.before.before.before in let b39 = b18.before.before.before.before.before.before.before.before.before.before.before.before.before.before.before.before.before.before.before.before.before in fills-some b39.args.cfg.fill b18.job.given.0.1.1.0 _ _ _ (sym b2.lots-of.ensures ∙ ap rule_fills c.lots.given.1)
+    fills-some c.args.cfg.fill c.in-Row.row _ _ _ (sym c.lots_of-lots.ensures ∙ ap rule_fills c.in-Take.is)
 
 -- how the walk went: what it yields is how its last event went
-walk-left : (c : tie.At-match5-branch invariant-loop2 decreases-loop2 invariant-loop3 decreases-loop3 invariant-loop decreases-loop invariant-loop4 decreases-loop4 invariant-phases decreases-phases) →
-    let b1 = c.before in c.match5.outcome ≡ b1.loop.outcome
+walk-left : (c : tie.Joined-outcome-2 invariant-loop2 decreases-loop2 invariant-loop3 decreases-loop3 invariant-loop decreases-loop invariant-loop4 decreases-loop4 invariant-phases decreases-phases) →
+    c.match-outcome-2.outcome ≡ c.loop-outcome.outcome
 walk-left c =
-    ⊎_elim (λ w. w.1) (λ w. w.5) c.match5.branch
+    elim c.match-outcome-2.branch [ in_default-outcome-2 w ↦ w.outcome-is | in-Ran-outcome-2+in_default-next w ↦ w.outcome-is ]
 
 -- the walk is done: what is behind it goes on from what it left
-walked : (c : tie.After-enum-told14 invariant-loop2 decreases-loop2 invariant-loop3 decreases-loop3 invariant-loop decreases-loop invariant-loop4 decreases-loop4 invariant-phases decreases-phases) →
-    let b3 = c.before.before.before in let b5 = b3.before.before in let b10 = b5.before.before.before.before.before in let b26 = b10.before.before.before.before.before.before.before.before.before.before.before.before.before.before.before.before in Goes (log_at b10.phases.log b10.phases.n) (run_events b26.args.cfg b5.job.given.0.1.1.0.ts_ns (at-phases b10)) (at-loop b3) (log_at b3.loop.log b3.loop.n)
+walked : (c : tie.In-Ran-outcome-3 invariant-loop2 decreases-loop2 invariant-loop3 decreases-loop3 invariant-loop decreases-loop invariant-loop4 decreases-loop4 invariant-phases decreases-phases) →
+    Goes (log_at c.phases.log c.phases.n) (run_events c.args.cfg c.in-Row.row.ts_ns (at-phases c.before.before.before.before.before.before)) (at-loop c.before.before) (log_at c.loop-outcome.log c.loop-outcome.n)
 walked c =
-    let b2 = c.before.before in let b3 = b2.before in let b5 = b3.before.before in let b26 = b5.before.before.before.before.before.before.before.before.before.before.before.before.before.before.before.before.before.before.before.before.before in ⊎_elim
-    (λ w. not_ran b3.loop.outcome w.0.keys2 (sym w.1 ∙ c.enum-told14.given.1))
-    (λ w. let k : tie.After-enum-told8 invariant-loop2 decreases-loop2 invariant-loop3 decreases-loop3 invariant-loop decreases-loop invariant-loop4 decreases-loop4 invariant-phases decreases-phases = record { before = record { before = b3; match5 = w.0 }; enum-told8 = w.1 } in
-    λ f. walk_done_then b26.args.cfg b5.job.given.0.1.1.0.ts_ns (at-loop b3) w.2.result (w.2.ensures (at-loop b3)) b3.loop.log b3.loop.n w.4.given.1 f ∙ walk-goes k f)
-    b2.match5.branch
+    elim c.match-outcome-2.branch [
+      | in_default-outcome-2 w ↦ not_ran c.loop-outcome.outcome w.in_default-outcome-2.not-Ran (sym w.outcome-is ∙ c.in-Ran-outcome-3.is)
+      | in-Ran-outcome-2+in_default-next w ↦
+          let k : tie.In-Ran-outcome-2 invariant-loop2 decreases-loop2 invariant-loop3 decreases-loop3 invariant-loop decreases-loop invariant-loop4 decreases-loop4 invariant-phases decreases-phases = record { before = c.before.before; in-Ran-outcome-2 = w.in-Ran-outcome-2 } in
+          λ f. walk_done_then c.args.cfg c.in-Row.row.ts_ns (at-loop c.before.before) w.next_of-next.result (w.next_of-next.ensures (at-loop c.before.before)) c.loop-outcome.log c.loop-outcome.n w.in_default-next.is f ∙ walk-goes k f
+    ]
 
 -- the turn matches a row
-turn_match : (c : tie.After-enum-told18 invariant-loop2 decreases-loop2 invariant-loop3 decreases-loop3 invariant-loop decreases-loop invariant-loop4 decreases-loop4 invariant-phases decreases-phases) →
-    let b7 = c.before.before.before.before.before.before.before in let b12 = b7.before.before.before.before.before in let b28 = b12.before.before.before.before.before.before.before.before.before.before.before.before.before.before.before.before in phase_turn b28.args.cfg b28.args.rows.now (at-phases b12) ≡ again (match_phase b28.args.cfg b7.job.given.0.1.0 b7.job.given.0.1.1.0 (at-phases b12))
+turn_match : (c : tie.In-Match invariant-loop2 decreases-loop2 invariant-loop3 decreases-loop3 invariant-loop decreases-loop invariant-loop4 decreases-loop4 invariant-phases decreases-phases) →
+    phase_turn c.args.cfg c.args.rows.now (at-phases c.before.before.before.before.before.before.before) ≡ again (match_phase c.args.cfg c.in-Row.index c.in-Row.row (at-phases c.before.before.before.before.before.before.before))
 turn_match c =
-    let b7 = c.before.before.before.before.before.before.before in let b9 = b7.before.before in let b12 = b9.before.before.before in let b28 = b12.before.before.before.before.before.before.before.before.before.before.before.before.before.before.before.before in turn_of b28.args.cfg b28.args.rows.now (at-phases b12) b9.Job-of.result (b9.Job-of.ensures b28.args.cfg (at-phases b12)) (work_of b7.job.given.1 c.enum-told18.given.1)
+    turn_of c.args.cfg c.args.rows.now (at-phases c.before.before.before.before.before.before.before) c.job_of-job.result (c.job_of-job.ensures c.args.cfg (at-phases c.before.before.before.before.before.before.before)) (work_of c.in-Row.is c.in-Match.is)
 
 -- what the pass gives from here on is what the match gives
-passed : (c : tie.At-loop4 invariant-loop2 decreases-loop2 invariant-loop3 decreases-loop3 invariant-loop decreases-loop invariant-loop4 decreases-loop4 invariant-phases decreases-phases) →
-    let b1 = c.before in let b13 = b1.before.before.before.before.before.before.before.before.before.before.before.before in let b18 = b13.before.before.before.before.before in let b34 = b18.before.before.before.before.before.before.before.before.before.before.before.before.before.before.before.before in (x : StepResult) → x ≡ expected (log_at c.loop4.log c.loop4.n) (and_then (match_from b34.args.cfg b13.job.given.0.1.1.0 (b1.looks.result - c.loop4.i) c.loop4.i (at-pass c)) (swept b34.args.cfg b13.job.given.0.1.0 b13.job.given.0.1.1.0)) → x ≡ expected (log_at b18.phases.log b18.phases.n) (match_phase b34.args.cfg b13.job.given.0.1.0 b13.job.given.0.1.1.0 (at-phases b18))
+passed : (c : tie.At-loop-i-3 invariant-loop2 decreases-loop2 invariant-loop3 decreases-loop3 invariant-loop decreases-loop invariant-loop4 decreases-loop4 invariant-phases decreases-phases) →
+    (x : StepResult) → x ≡ expected (log_at c.loop-i-3.log c.loop-i-3.n) (and_then (match_from c.args.cfg c.in-Row.row (c.looks-count.result - c.loop-i-3.i) c.loop-i-3.i (at-pass c)) (swept c.args.cfg c.in-Row.index c.in-Row.row)) → x ≡ expected (log_at c.phases.log c.phases.n) (match_phase c.args.cfg c.in-Row.index c.in-Row.row (at-phases c.before.before.before.before.before.before.before.before.before.before.before.before))
 passed c =
-    let b1 = c.before in let b2 = b1.before in let b5 = b2.before.before.before in let b8 = b5.before.before.before in let b11 = b8.before.before.before in let b13 = b11.before.before in let b18 = b13.before.before.before.before.before in let b34 = b18.before.before.before.before.before.before.before.before.before.before.before.before.before.before.before.before in λ x p. matched-is (log_at b18.phases.log b18.phases.n) b34.args.cfg b13.job.given.0.1.0 b13.job.given.0.1.1.0 (at-phases b18) b11.loop.log b11.loop.n (at-loop b11) (walked b8) (opened_in (at-loop b11) b11.loop.n b5.open_row.result) b11.loop.log (b5.open_row.ensures (at-loop b11) b11.loop.n b11.loop.log) b2.enum-told19.given.1 b1.looks.result b1.looks.ensures (p ∙ c.loop4.invariant.0 (swept b34.args.cfg b13.job.given.0.1.0 b13.job.given.0.1.1.0))
+    λ x p. matched-is (log_at c.phases.log c.phases.n) c.args.cfg c.in-Row.index c.in-Row.row (at-phases c.before.before.before.before.before.before.before.before.before.before.before.before) c.loop-outcome.log c.loop-outcome.n (at-loop c.before.before.before.before.before.before.before.before) (walked c.before.before.before.before.before.before) (opened_in (at-loop c.before.before.before.before.before.before.before.before) c.loop-outcome.n c.open_row-open.result) c.loop-outcome.log (c.open_row-open.ensures (at-loop c.before.before.before.before.before.before.before.before) c.loop-outcome.n c.loop-outcome.log) c.in-Ran-outcome-4.is c.looks-count.result c.looks-count.ensures (p ∙ c.loop-i-3.invariant.0 (swept c.args.cfg c.in-Row.index c.in-Row.row))
 
 -- and behind the pass what the sweep gives
-pass-over : (c : tie.After-any-terminal invariant-loop2 decreases-loop2 invariant-loop3 decreases-loop3 invariant-loop decreases-loop invariant-loop4 decreases-loop4 invariant-phases decreases-phases) →
-    let b2 = c.before.before in let b15 = b2.before.before.before.before.before.before.before.before.before.before.before.before.before in let b20 = b15.before.before.before.before.before in let b36 = b20.before.before.before.before.before.before.before.before.before.before.before.before.before.before.before.before in (x : StepResult) → x ≡ expected (log_at b2.loop4.log b2.loop4.n) (and_then (sweep (at-pass b2)) (queue_observation b36.args.cfg b15.job.given.0.1.0 b15.job.given.0.1.1.0)) → x ≡ expected (log_at b20.phases.log b20.phases.n) (match_phase b36.args.cfg b15.job.given.0.1.0 b15.job.given.0.1.1.0 (at-phases b20))
+pass-over : (c : tie.After-any_terminal invariant-loop2 decreases-loop2 invariant-loop3 decreases-loop3 invariant-loop decreases-loop invariant-loop4 decreases-loop4 invariant-phases decreases-phases) →
+    (x : StepResult) → x ≡ expected (log_at c.loop-i-3.log c.loop-i-3.n) (and_then (sweep (at-pass c.before.before)) (queue_observation c.args.cfg c.in-Row.index c.in-Row.row)) → x ≡ expected (log_at c.phases.log c.phases.n) (match_phase c.args.cfg c.in-Row.index c.in-Row.row (at-phases c.before.before.before.before.before.before.before.before.before.before.before.before.before.before))
 pass-over c =
-    let b1 = c.before in let b2 = b1.before in let b3 = b2.before in let b15 = b3.before.before.before.before.before.before.before.before.before.before.before.before in let b36 = b15.before.before.before.before.before.before.before.before.before.before.before.before.before.before.before.before.before.before.before.before.before in λ x p. passed b2 x (p ∙ pass_done (log_at b2.loop4.log b2.loop4.n) b36.args.cfg b15.job.given.0.1.1.0 (b3.looks.result - b2.loop4.i) b2.loop4.i (omega (arith, b1.loop4-test.false)) (at-pass b2) (swept b36.args.cfg b15.job.given.0.1.0 b15.job.given.0.1.1.0))
+    λ x p. passed c.before.before x (p ∙ pass_done (log_at c.loop-i-3.log c.loop-i-3.n) c.args.cfg c.in-Row.row (c.looks-count.result - c.loop-i-3.i) c.loop-i-3.i (omega (arith, c.loop-i-3-test.false)) (at-pass c.before.before) (swept c.args.cfg c.in-Row.index c.in-Row.row))
 
 -- the sweep, or nothing in its place: what is behind it goes on
-swept-goes : (c : tie.Joined1 invariant-loop2 decreases-loop2 invariant-loop3 decreases-loop3 invariant-loop decreases-loop invariant-loop4 decreases-loop4 invariant-phases decreases-phases) →
-    let b3 = c.before.before.before in let b14 = b3.before.before.before.before.before.before.before.before.before.before.before in (k : KernelState → Run) → expected (log_at b3.loop4.log b3.loop4.n) (k (state_of b14.loop.control b3.loop4.v c.if1.orders c.if1.msgs c.if1.awaiting b3.loop4.deliveries b14.loop.observed b14.loop.agent b14.loop.account)) ≡ expected (log_at b3.loop4.log b3.loop4.n) (and_then (sweep (at-pass b3)) k)
+swept-goes : (c : tie.Joined-any_terminal invariant-loop2 decreases-loop2 invariant-loop3 decreases-loop3 invariant-loop decreases-loop invariant-loop4 decreases-loop4 invariant-phases decreases-phases) →
+    (k : KernelState → Run) → expected (log_at c.loop-i-3.log c.loop-i-3.n) (k (state_of c.loop-outcome.control c.loop-i-3.v c.if-any_terminal.orders c.if-any_terminal.msgs c.if-any_terminal.awaiting c.loop-i-3.deliveries c.loop-outcome.observed c.loop-outcome.agent c.loop-outcome.account)) ≡ expected (log_at c.loop-i-3.log c.loop-i-3.n) (and_then (sweep (at-pass c.before.before.before)) k)
 swept-goes c =
-    let b1 = c.before in let b3 = b1.before.before in λ k. ⊎_elim
-    (λ y. rw (y.7, y.8, y.9) (sweep-goes b3.loop4.log b3.loop4.n (at-pass b3) y.1.result k (y.1.ensures (at-pass b3) b3.loop4.n b3.loop4.log) y.6.given.1))
-    (λ y. rw (y.1, y.2, y.3) (sweep_none (log_at b3.loop4.log b3.loop4.n) (at-pass b3) k (sym b1.any-terminal.ensures ∙ y.0.left)))
-    c.if1.branch
+    λ k. elim c.if-any_terminal.branch [
+      | then-any_terminal+in-Ran-outcome-6 y ↦ rw (y.orders-is, y.msgs-is, y.awaiting-is) (sweep-goes c.loop-i-3.log c.loop-i-3.n (at-pass c.before.before.before) y.sweep-w.result k (y.sweep-w.ensures (at-pass c.before.before.before) c.loop-i-3.n c.loop-i-3.log) y.in-Ran-outcome-6.is)
+      | else-any_terminal y ↦ rw (y.orders-is, y.msgs-is, y.awaiting-is) (sweep_none (log_at c.loop-i-3.log c.loop-i-3.n) (at-pass c.before.before.before) k (sym c.any_terminal.ensures ∙ y.if-any_terminal.false))
+    ]
 
 -- and then what the observation gives
-sweep-over : (c : tie.Joined1 invariant-loop2 decreases-loop2 invariant-loop3 decreases-loop3 invariant-loop decreases-loop invariant-loop4 decreases-loop4 invariant-phases decreases-phases) →
-    let b3 = c.before.before.before in let b14 = b3.before.before.before.before.before.before.before.before.before.before.before in let b16 = b14.before.before in let b21 = b16.before.before.before.before.before in let b37 = b21.before.before.before.before.before.before.before.before.before.before.before.before.before.before.before.before in (x : StepResult) → x ≡ expected (log_at b3.loop4.log b3.loop4.n) (queue_observation b37.args.cfg b16.job.given.0.1.0 b16.job.given.0.1.1.0 (state_of b14.loop.control b3.loop4.v c.if1.orders c.if1.msgs c.if1.awaiting b3.loop4.deliveries b14.loop.observed b14.loop.agent b14.loop.account)) → x ≡ expected (log_at b21.phases.log b21.phases.n) (match_phase b37.args.cfg b16.job.given.0.1.0 b16.job.given.0.1.1.0 (at-phases b21))
+sweep-over : (c : tie.Joined-any_terminal invariant-loop2 decreases-loop2 invariant-loop3 decreases-loop3 invariant-loop decreases-loop invariant-loop4 decreases-loop4 invariant-phases decreases-phases) →
+    (x : StepResult) → x ≡ expected (log_at c.loop-i-3.log c.loop-i-3.n) (queue_observation c.args.cfg c.in-Row.index c.in-Row.row (state_of c.loop-outcome.control c.loop-i-3.v c.if-any_terminal.orders c.if-any_terminal.msgs c.if-any_terminal.awaiting c.loop-i-3.deliveries c.loop-outcome.observed c.loop-outcome.agent c.loop-outcome.account)) → x ≡ expected (log_at c.phases.log c.phases.n) (match_phase c.args.cfg c.in-Row.index c.in-Row.row (at-phases c.before.before.before.before.before.before.before.before.before.before.before.before.before.before.before))
 sweep-over c =
-    let b1 = c.before in let b16 = b1.before.before.before.before.before.before.before.before.before.before.before.before.before.before.before in let b37 = b16.before.before.before.before.before.before.before.before.before.before.before.before.before.before.before.before.before.before.before.before.before in λ x p. pass-over b1 x (p ∙ swept-goes c (queue_observation b37.args.cfg b16.job.given.0.1.0 b16.job.given.0.1.1.0))
+    λ x p. pass-over c.before x (p ∙ swept-goes c (queue_observation c.args.cfg c.in-Row.index c.in-Row.row))
 
 -- the row's observation waits in its list: the match is done
-queues : (c : tie.After-enum-told24 invariant-loop2 decreases-loop2 invariant-loop3 decreases-loop3 invariant-loop decreases-loop invariant-loop4 decreases-loop4 invariant-phases decreases-phases) →
-    let b4 = c.before.before.before.before in let b5 = b4.before in let b8 = b5.before.before.before in let b19 = b8.before.before.before.before.before.before.before.before.before.before.before in let b21 = b19.before.before in let b26 = b21.before.before.before.before.before in let b42 = b26.before.before.before.before.before.before.before.before.before.before.before.before.before.before.before.before in record { outcome = b4.observed-at.result.outcome; state = (state_of b4.observed-at.result.control b4.observed-at.result.venue b5.if1.orders b5.if1.msgs b5.if1.awaiting b8.loop4.deliveries (record { slots = set b19.loop.observed.slots b19.loop.observed.count (record { ready_ns = b4.observed-at.result.venue.clock.last_observed_ns; row = b21.job.given.0.1.0 }); count = b19.loop.observed.count + 1 }) b19.loop.agent b19.loop.account); log = (log_at b8.loop4.log b8.loop4.n) } ≡ expected (log_at b26.phases.log b26.phases.n) (match_phase b42.args.cfg b21.job.given.0.1.0 b21.job.given.0.1.1.0 (at-phases b26))
+queues : (c : tie.In-Ran-outcome-7 invariant-loop2 decreases-loop2 invariant-loop3 decreases-loop3 invariant-loop decreases-loop invariant-loop4 decreases-loop4 invariant-phases decreases-phases) →
+    record { outcome = c.observed_at-q.result.outcome; state = (state_of c.observed_at-q.result.control c.observed_at-q.result.venue c.if-any_terminal.orders c.if-any_terminal.msgs c.if-any_terminal.awaiting c.loop-i-3.deliveries (record { slots = set c.loop-outcome.observed.slots c.loop-outcome.observed.count (record { ready_ns = c.observed_at-q.result.venue.clock.last_observed_ns; row = c.in-Row.index }); count = c.loop-outcome.observed.count + 1 }) c.loop-outcome.agent c.loop-outcome.account); log = (log_at c.loop-i-3.log c.loop-i-3.n) } ≡ expected (log_at c.phases.log c.phases.n) (match_phase c.args.cfg c.in-Row.index c.in-Row.row (at-phases c.before.before.before.before.before.before.before.before.before.before.before.before.before.before.before.before.before.before.before))
 queues c =
-    let b4 = c.before.before.before.before in let b5 = b4.before in let b8 = b5.before.before.before in let b19 = b8.before.before.before.before.before.before.before.before.before.before.before in let b21 = b19.before.before in let b42 = b21.before.before.before.before.before.before.before.before.before.before.before.before.before.before.before.before.before.before.before.before.before in sweep-over b5 _ (queued-ran b8.loop4.log b8.loop4.n b21.job.given.0.1.0 b42.args.cfg b21.job.given.0.1.1.0 b19.loop.control b8.loop4.v b5.if1.orders b5.if1.msgs b5.if1.awaiting b8.loop4.deliveries b19.loop.observed b19.loop.agent b19.loop.account b4.observed-at.result b4.observed-at.ensures.0 c.enum-told24.given.1 (b4.observed-at.ensures.1 c.enum-told24.given.1) b19.loop.invariant.4)
+    sweep-over c.before.before.before.before _ (queued-ran c.loop-i-3.log c.loop-i-3.n c.in-Row.index c.args.cfg c.in-Row.row c.loop-outcome.control c.loop-i-3.v c.if-any_terminal.orders c.if-any_terminal.msgs c.if-any_terminal.awaiting c.loop-i-3.deliveries c.loop-outcome.observed c.loop-outcome.agent c.loop-outcome.account c.observed_at-q.result c.observed_at-q.ensures.0 c.in-Ran-outcome-7.is (c.observed_at-q.ensures.1 c.in-Ran-outcome-7.is) c.loop-outcome.invariant.4)
 
 -- the first row, or a row whose end is written: then comes the next row
-joined-turn : (c : tie.At-match3-branch invariant-loop2 decreases-loop2 invariant-loop3 decreases-loop3 invariant-loop decreases-loop invariant-loop4 decreases-loop4 invariant-phases decreases-phases) →
-    let b4 = c.before.before.before.before in let b20 = b4.before.before.before.before.before.before.before.before.before.before.before.before.before.before.before.before in (r : Run) × (phase_turn b20.args.cfg b20.args.rows.now (at-phases b4) ≡ again r) × (expected (log_at c.match3.log c.match3.n) (next_row b20.args.cfg b20.args.rows.now (state_of c.match3.control c.match3.v c.match3.orders c.match3.msgs c.match3.awaiting c.match3.deliveries c.match3.observed c.match3.agent c.match3.account)) ≡ expected (log_at b4.phases.log b4.phases.n) r)
-    × (length c.match3.log ≡ length b4.phases.log) × (length c.match3.deliveries.slots ≡ 24) × (length c.match3.observed.slots ≡ 16) × (is_paused c.match3.control.phase ≡ false) × (c.match3.outcome ≡ Ran)
+joined-turn : (c : tie.Joined-job invariant-loop2 decreases-loop2 invariant-loop3 decreases-loop3 invariant-loop decreases-loop invariant-loop4 decreases-loop4 invariant-phases decreases-phases) →
+    (r : Run) × (phase_turn c.args.cfg c.args.rows.now (at-phases c.before.before.before) ≡ again r) × (expected (log_at c.match-job.log c.match-job.n) (next_row c.args.cfg c.args.rows.now (state_of c.match-job.control c.match-job.v c.match-job.orders c.match-job.msgs c.match-job.awaiting c.match-job.deliveries c.match-job.observed c.match-job.agent c.match-job.account)) ≡ expected (log_at c.phases.log c.phases.n) r)
+    × (length c.match-job.log ≡ length c.phases.log) × (length c.match-job.deliveries.slots ≡ 24) × (length c.match-job.observed.slots ≡ 16) × (is_paused c.match-job.control.phase ≡ false) × (c.match-job.outcome ≡ Ran)
 joined-turn c =
-    let b1 = c.before in let b2 = b1.before in let b4 = b2.before.before in let b20 = b4.before.before.before.before.before.before.before.before.before.before.before.before.before.before.before.before in ⊎_elim
-    (λ w. (
-      next_row b20.args.cfg b20.args.rows.now (at-phases b4),
-      (turn_of b20.args.cfg b20.args.rows.now (at-phases b4) b1.Job-of.result (b1.Job-of.ensures b20.args.cfg (at-phases b4)) w.1.given.1),
-      met_in (λ l n s. expected (log_at l n) (next_row b20.args.cfg b20.args.rows.now s)) w.2 w.3 w.4 w.5 w.6 w.7 w.8 w.9 w.10 w.11 w.12,
-      ap length w.2,
-      ap (λ (d : Deliveries). length d.slots) w.8 ∙ (b4.phases.invariant.2 b2.enum-told3.given.1).0,
-      ap (λ (d : Observed). length d.slots) w.9 ∙ (b4.phases.invariant.2 b2.enum-told3.given.1).1,
-      ap (λ (x : Control). is_paused x.phase) w.3 ∙ again_not_paused b20.args.cfg b20.args.rows.now (at-phases b4) _ (turn_of b20.args.cfg b20.args.rows.now (at-phases b4) b1.Job-of.result (b1.Job-of.ensures b20.args.cfg (at-phases b4)) w.1.given.1),
-      w.13 ∙ b2.enum-told3.given.1,
-    ))
-    (λ w. let k : tie.After-slice-known5 invariant-loop2 decreases-loop2 invariant-loop3 decreases-loop3 invariant-loop decreases-loop invariant-loop4 decreases-loop4 invariant-phases decreases-phases = record { before = record { before = record { before = record { before = record { before = record { before = record { before = record { before = record { before = record { before = record { before = record { before = record { before = record { before = record { before = record { before = c.before; match3 = w.0 }; job = w.1 }; known-told2 = w.2 }; loop = w.3 }; match5 = w.4 }; match9 = w.5 }; enum-told14 = w.6 }; match10 = w.7 }; enum-told15 = w.8 }; checked-add = w.9 }; match11 = w.10 }; enum-told16 = w.11 }; emit-arg = w.12 }; emit = w.13 }; log4 = w.14 }; slice-known5 = w.15 } in let b2 = k.before.before in let b4 = b2.before.before in let b6 = b4.before.before in let b7 = b6.before in let b9 = b7.before.before in let b12 = b9.before.before.before in let b14 = b12.before.before in let b16 = b14.before.before in let b19 = b16.before.before.before in let b35 = b19.before.before.before.before.before.before.before.before.before.before.before.before.before.before.before.before in (
-      worked Settle b35.args.cfg b35.args.rows.now b14.job.given.0.1.0 b14.job.given.0.1.1.0 (at-phases b19),
-      (turn_of b35.args.cfg b35.args.rows.now (at-phases b19) b16.Job-of.result (b16.Job-of.ensures b35.args.cfg (at-phases b19)) (work_of b14.job.given.1 b7.enum-told15.given.1)),
-      met_in (λ l n s. expected (log_at l n) (next_row b35.args.cfg b35.args.rows.now s)) w.16 w.17 w.18 w.19 w.20 w.21 w.22 w.23 w.24 w.25 w.26 ∙ settle_is (log_at b19.phases.log b19.phases.n) b35.args.cfg b35.args.rows.now b14.job.given.0.1.0 b14.job.given.0.1.1.0 (at-phases b19) b12.loop.log b12.loop.n (at-loop b12) (walked b9) b6.checked-add.result b6.checked-add.ensures _ b4.enum-told16.given.1 _ _ b2.emit.ensures,
-      ap length w.16 ∙ b2.emit.kept.0 ∙ b12.loop.inv.2,
-      ap (λ (d : Deliveries). length d.slots) w.22 ∙ b12.loop.inv.3,
-      ap (λ (d : Observed). length d.slots) w.23 ∙ b12.loop.inv.4,
-      ap (λ (x : Control). is_paused x.phase) w.17 ∙ waits-not b12,
-      w.27 ∙ b9.enum-told14.given.1,
-    ))
-    c.match3.branch
+    elim c.match-job.branch [
+      | in-First w ↦ (
+        next_row c.args.cfg c.args.rows.now (at-phases c.before.before.before),
+        (turn_of c.args.cfg c.args.rows.now (at-phases c.before.before.before) c.job_of-job.result (c.job_of-job.ensures c.args.cfg (at-phases c.before.before.before)) w.in-First.is),
+        met_in (λ l n s. expected (log_at l n) (next_row c.args.cfg c.args.rows.now s)) w.log-is w.control-is w.v-is w.orders-is w.msgs-is w.awaiting-is w.deliveries-is w.observed-is w.agent-is w.account-is w.n-is,
+        ap length w.log-is,
+        ap (λ (d : Deliveries). length d.slots) w.deliveries-is ∙ (c.phases.invariant.2 c.in-Ran-outcome.is).0,
+        ap (λ (d : Observed). length d.slots) w.observed-is ∙ (c.phases.invariant.2 c.in-Ran-outcome.is).1,
+        ap (λ (x : Control). is_paused x.phase) w.control-is ∙ again_not_paused c.args.cfg c.args.rows.now (at-phases c.before.before.before) _ (turn_of c.args.cfg c.args.rows.now (at-phases c.before.before.before) c.job_of-job.result (c.job_of-job.ensures c.args.cfg (at-phases c.before.before.before)) w.in-First.is),
+        w.outcome-is ∙ c.in-Ran-outcome.is,
+      )
+      | in-Row+in-Ran-outcome-3+in-Settle+in-Some w ↦
+          let r : tie.In-Row invariant-loop2 decreases-loop2 invariant-loop3 decreases-loop3 invariant-loop decreases-loop invariant-loop4 decreases-loop4 invariant-phases decreases-phases = record { before = c.before; in-Row = w.in-Row } in
+          let a : tie.At-loop-outcome invariant-loop2 decreases-loop2 invariant-loop3 decreases-loop3 invariant-loop decreases-loop invariant-loop4 decreases-loop4 invariant-phases decreases-phases = record { before = r; loop-outcome = w.loop-outcome } in
+          let m : tie.Joined-outcome-2 invariant-loop2 decreases-loop2 invariant-loop3 decreases-loop3 invariant-loop decreases-loop invariant-loop4 decreases-loop4 invariant-phases decreases-phases = record { before = a; match-outcome-2 = w.match-outcome-2 } in
+          let d : tie.In-Ran-outcome-3 invariant-loop2 decreases-loop2 invariant-loop3 decreases-loop3 invariant-loop decreases-loop invariant-loop4 decreases-loop4 invariant-phases decreases-phases = record { before = m; in-Ran-outcome-3 = w.in-Ran-outcome-3 } in (
+            worked Settle c.args.cfg c.args.rows.now w.in-Row.index w.in-Row.row (at-phases c.before.before.before),
+            (turn_of c.args.cfg c.args.rows.now (at-phases c.before.before.before) c.job_of-job.result (c.job_of-job.ensures c.args.cfg (at-phases c.before.before.before)) (work_of w.in-Row.is w.in-Settle.is)),
+            met_in (λ l n s. expected (log_at l n) (next_row c.args.cfg c.args.rows.now s)) w.log-is w.control-is w.v-is w.orders-is w.msgs-is w.awaiting-is w.deliveries-is w.observed-is w.agent-is w.account-is w.n-is ∙ settle_is (log_at c.phases.log c.phases.n) c.args.cfg c.args.rows.now w.in-Row.index w.in-Row.row (at-phases c.before.before.before) w.loop-outcome.log w.loop-outcome.n (at-loop a) (walked d) w.checked_add-sum.result w.checked_add-sum.ensures _ w.in-Some.is _ _ w.emit-n.ensures,
+            ap length w.log-is ∙ w.emit-n.auto.log ∙ w.loop-outcome.invariant.2,
+            ap (λ (d : Deliveries). length d.slots) w.deliveries-is ∙ w.loop-outcome.invariant.3,
+            ap (λ (d : Observed). length d.slots) w.observed-is ∙ w.loop-outcome.invariant.4,
+            ap (λ (x : Control). is_paused x.phase) w.control-is ∙ waits-not a,
+            w.outcome-is ∙ w.in-Ran-outcome-3.is,
+          )
+    ]
 
 -- the call is over, and waits for no decision
-ends_at : (c : tie.After-enum-told3 invariant-loop2 decreases-loop2 invariant-loop3 decreases-loop3 invariant-loop decreases-loop invariant-loop4 decreases-loop4 invariant-phases decreases-phases) →
-    let b2 = c.before.before in let b3 = b2.before in let b18 = b3.before.before.before.before.before.before.before.before.before.before.before.before.before.before.before in (o : Outcome) (u : KernelState) (m : Log) → record { outcome = o; state = u; log = m } ≡ expected (log_at b2.phases.log b2.phases.n) (phases b18.args.cfg b18.args.rows.now (at-phases b2)) → Stopped o → is_paused u.control.phase ≡ false → leaves_on o b18.args.cfg b18.args.rows.now (length b18.args.log.now / 12) b2.phases.left b2.phases.before m u ≡ whole b3
+ends_at : (c : tie.In-Ran-outcome invariant-loop2 decreases-loop2 invariant-loop3 decreases-loop3 invariant-loop decreases-loop invariant-loop4 decreases-loop4 invariant-phases decreases-phases) →
+    (o : Outcome) (u : KernelState) (m : Log) → record { outcome = o; state = u; log = m } ≡ expected (log_at c.phases.log c.phases.n) (phases c.args.cfg c.args.rows.now (at-phases c.before)) → Stopped o → is_paused u.control.phase ≡ false → leaves_on o c.args.cfg c.args.rows.now (length c.args.log.now / 12) c.phases.left c.phases.before m u ≡ whole c.before.before
 ends_at c =
-    let b2 = c.before.before in let b18 = b2.before.before.before.before.before.before.before.before.before.before.before.before.before.before.before.before in λ o u m e r h. ends-still b18.args.cfg b18.args.rows.now (length b18.args.log.now / 12) b2.phases.left b2.phases.before (log_at b2.phases.log b2.phases.n) (at-phases b2) b2.phases.outcome c.enum-told3.given.1 e r h ∙ b2.phases.invariant.0
+    λ o u m e r h. ends-still c.args.cfg c.args.rows.now (length c.args.log.now / 12) c.phases.left c.phases.before (log_at c.phases.log c.phases.n) (at-phases c.before) c.phases.outcome c.in-Ran-outcome.is e r h ∙ c.phases.invariant.0
 
 -- another turn follows
-turns-on : (c : tie.After-enum-told3 invariant-loop2 decreases-loop2 invariant-loop3 decreases-loop3 invariant-loop decreases-loop invariant-loop4 decreases-loop4 invariant-phases decreases-phases) →
-    let b2 = c.before.before in let b3 = b2.before in let b18 = b3.before.before.before.before.before.before.before.before.before.before.before.before.before.before.before in (o : Outcome) → o ≡ Ran → (fewer b : ℕ) (m : Log) (u : KernelState) → after_call b18.args.cfg b18.args.rows.now (length b18.args.log.now / 12) fewer b (expected m (phases b18.args.cfg b18.args.rows.now u)) ≡ after_call b18.args.cfg b18.args.rows.now (length b18.args.log.now / 12) b2.phases.left b2.phases.before (expected (log_at b2.phases.log b2.phases.n) (phases b18.args.cfg b18.args.rows.now (at-phases b2))) → leaves_on o b18.args.cfg b18.args.rows.now (length b18.args.log.now / 12) fewer b m u ≡ whole b3
+turns-on : (c : tie.In-Ran-outcome invariant-loop2 decreases-loop2 invariant-loop3 decreases-loop3 invariant-loop decreases-loop invariant-loop4 decreases-loop4 invariant-phases decreases-phases) →
+    (o : Outcome) → o ≡ Ran → (fewer b : ℕ) (m : Log) (u : KernelState) → after_call c.args.cfg c.args.rows.now (length c.args.log.now / 12) fewer b (expected m (phases c.args.cfg c.args.rows.now u)) ≡ after_call c.args.cfg c.args.rows.now (length c.args.log.now / 12) c.phases.left c.phases.before (expected (log_at c.phases.log c.phases.n) (phases c.args.cfg c.args.rows.now (at-phases c.before))) → leaves_on o c.args.cfg c.args.rows.now (length c.args.log.now / 12) fewer b m u ≡ whole c.before.before
 turns-on c =
-    let b2 = c.before.before in let b18 = b2.before.before.before.before.before.before.before.before.before.before.before.before.before.before.before.before in λ o r fewer b m u e. goes_on_lem b18.args.cfg b18.args.rows.now (length b18.args.log.now / 12) b2.phases.left b2.phases.before (log_at b2.phases.log b2.phases.n) (at-phases b2) b2.phases.outcome c.enum-told3.given.1 o r fewer b m u e ∙ b2.phases.invariant.0
+    λ o r fewer b m u e. goes_on_lem c.args.cfg c.args.rows.now (length c.args.log.now / 12) c.phases.left c.phases.before (log_at c.phases.log c.phases.n) (at-phases c.before) c.phases.outcome c.in-Ran-outcome.is o r fewer b m u e ∙ c.phases.invariant.0
 
 -- a match stops
-match-out : (c : tie.After-enum-told18 invariant-loop2 decreases-loop2 invariant-loop3 decreases-loop3 invariant-loop decreases-loop invariant-loop4 decreases-loop4 invariant-phases decreases-phases) →
-    let b7 = c.before.before.before.before.before.before.before in let b12 = b7.before.before.before.before.before in let b13 = b12.before in let b28 = b13.before.before.before.before.before.before.before.before.before.before.before.before.before.before.before in (o : Outcome) (u : KernelState) (m : Log) → record { outcome = o; state = u; log = m } ≡ expected (log_at b12.phases.log b12.phases.n) (match_phase b28.args.cfg b7.job.given.0.1.0 b7.job.given.0.1.1.0 (at-phases b12)) → Stopped o → is_paused u.control.phase ≡ false → leaves_on o b28.args.cfg b28.args.rows.now (length b28.args.log.now / 12) b12.phases.left b12.phases.before m u ≡ whole b13
+match-out : (c : tie.In-Match invariant-loop2 decreases-loop2 invariant-loop3 decreases-loop3 invariant-loop decreases-loop invariant-loop4 decreases-loop4 invariant-phases decreases-phases) →
+    (o : Outcome) (u : KernelState) (m : Log) → record { outcome = o; state = u; log = m } ≡ expected (log_at c.phases.log c.phases.n) (match_phase c.args.cfg c.in-Row.index c.in-Row.row (at-phases c.before.before.before.before.before.before.before)) → Stopped o → is_paused u.control.phase ≡ false → leaves_on o c.args.cfg c.args.rows.now (length c.args.log.now / 12) c.phases.left c.phases.before m u ≡ whole c.before.before.before.before.before.before.before.before
 match-out c =
-    let b7 = c.before.before.before.before.before.before.before in let b10 = b7.before.before.before in let b12 = b10.before.before in let b28 = b12.before.before.before.before.before.before.before.before.before.before.before.before.before.before.before.before in λ o u m e r h. ends_at b10 o u m (phases-left b28.args.cfg b28.args.rows.now (at-phases b12) (match_phase b28.args.cfg b7.job.given.0.1.0 b7.job.given.0.1.1.0 (at-phases b12)) (turn_match c) (log_at b12.phases.log b12.phases.n) e r) r h
+    λ o u m e r h. ends_at c.before.before.before.before.before.before o u m (phases-left c.args.cfg c.args.rows.now (at-phases c.before.before.before.before.before.before.before) (match_phase c.args.cfg c.in-Row.index c.in-Row.row (at-phases c.before.before.before.before.before.before.before)) (turn_match c) (log_at c.phases.log c.phases.n) e r) r h
 
 -- the end of the data ends the call
-data-ends : (c : tie.After-end-of-data invariant-loop2 decreases-loop2 invariant-loop3 decreases-loop3 invariant-loop decreases-loop invariant-loop4 decreases-loop4 invariant-phases decreases-phases) →
-    Stopped c.end-of-data.result.outcome
+data-ends : (c : tie.After-end_of_data-e invariant-loop2 decreases-loop2 invariant-loop3 decreases-loop3 invariant-loop decreases-loop invariant-loop4 decreases-loop4 invariant-phases decreases-phases) →
+    Stopped c.end_of_data-e.result.outcome
 data-ends c =
-    let b5 = c.before.before.before.before.before in end_stops (log_at b5.match3.log b5.match3.n) (state_of b5.match3.control b5.match3.v b5.match3.orders b5.match3.msgs b5.match3.awaiting b5.match3.deliveries b5.match3.observed b5.match3.agent b5.match3.account) _ _ (c.end-of-data.ensures.0 (state_of b5.match3.control b5.match3.v b5.match3.orders b5.match3.msgs b5.match3.awaiting b5.match3.deliveries b5.match3.observed b5.match3.agent b5.match3.account))
+    end_stops (log_at c.match-job.log c.match-job.n) (state_of c.match-job.control c.match-job.v c.match-job.orders c.match-job.msgs c.match-job.awaiting c.match-job.deliveries c.match-job.observed c.match-job.agent c.match-job.account) _ _ (c.end_of_data-e.ensures.0 (state_of c.match-job.control c.match-job.v c.match-job.orders c.match-job.msgs c.match-job.awaiting c.match-job.deliveries c.match-job.observed c.match-job.agent c.match-job.account))
 
-returns : tie.Need-returns invariant-loop2 decreases-loop2 invariant-loop3 decreases-loop3 invariant-loop decreases-loop invariant-loop4 decreases-loop4 invariant-phases decreases-phases
+returns : tie.Need-returns-in_default invariant-loop2 decreases-loop2 invariant-loop3 decreases-loop3 invariant-loop decreases-loop invariant-loop4 decreases-loop4 invariant-phases decreases-phases
 returns c =
-    let b2 = c.before.before in let b3 = b2.before in let b6 = b3.before.before.before in subst (λ (x : Answer). actual_run (record { answer = x; state = b6.args.state; events = 0; last = 0 }) b6.args.log.now ≡ returned_run b6.args.log.now (run b6.args.cfg b6.args.rows.now (length b6.args.log.now / 12) b6.args.passes b6.args.state)) (sym c.enum-told2.given.1) (run-refused b6.args.cfg b6.args.rows.now b6.args.log.now (length b6.args.log.now / 12) b6.args.passes b6.args.state _ (ap (tested_as (length b6.args.rows.now)) (sym (b3.counts-fit.ensures b6.args.state refl)) ∙ sym b2.tested.ensures ∙ c.enum-told2.given.1))
+    subst (λ (x : Answer). actual_run (record { answer = x; state = c.args.state; events = 0; last = 0 }) c.args.log.now ≡ returned_run c.args.log.now (run c.args.cfg c.args.rows.now (length c.args.log.now / 12) c.args.passes c.args.state)) (sym c.in_default.is) (run-refused c.args.cfg c.args.rows.now c.args.log.now (length c.args.log.now / 12) c.args.passes c.args.state _ (ap (tested_as (length c.args.rows.now)) (sym (c.counts_fit.ensures c.args.state refl)) ∙ sym c.tested-answer.ensures ∙ c.in_default.is))
 
 phases-holds : tie.Need-phases-init invariant-loop2 decreases-loop2 invariant-loop3 decreases-loop3 invariant-loop decreases-loop invariant-loop4 decreases-loop4 invariant-phases decreases-phases
 phases-holds c =
-    let b15 = c.before.before.before.before.before.before.before.before.before.before.before.before.before.before.before in (leaves-ran Ran refl _ _ _ _ _ _ _, refl, λ e. (deliveries_whole b15.args.state b15.well-formed.1.1.0, observed_whole b15.args.state b15.well-formed.1.1.0))
+    (leaves-ran Ran refl _ _ _ _ _ _ _, refl, λ e. (deliveries_whole c.args.state c.well_formed.1.1.0, observed_whole c.args.state c.well_formed.1.1.0))
 
 -- no pass follows
-phases-less : tie.Need-phases-smaller invariant-loop2 decreases-loop2 invariant-loop3 decreases-loop3 invariant-loop decreases-loop invariant-loop4 decreases-loop4 invariant-phases decreases-phases
+phases-less : tie.Need-phases-smaller-in_default-to invariant-loop2 decreases-loop2 invariant-loop3 decreases-loop3 invariant-loop decreases-loop invariant-loop4 decreases-loop4 invariant-phases decreases-phases
 phases-less c =
-    let b7 = c.before.before.before.before.before.before.before in let b9 = b7.before.before in fuel-stops Left b9.phases.outcome _ _ b7.enum-told3.given.1 (inl refl)
+    fuel-stops Left c.phases.outcome _ _ c.in-Ran-outcome.is (λ e. cc)
 
-phases-again : tie.Need-phases-preserved invariant-loop2 decreases-loop2 invariant-loop3 decreases-loop3 invariant-loop decreases-loop invariant-loop4 decreases-loop4 invariant-phases decreases-phases
+phases-again : tie.Need-phases-preserved-in_default-to invariant-loop2 decreases-loop2 invariant-loop3 decreases-loop3 invariant-loop decreases-loop invariant-loop4 decreases-loop4 invariant-phases decreases-phases
 phases-again c =
-    let b2 = c.before.before in let b3 = b2.before in let b4 = b3.before in let b6 = b4.before.before in let b7 = b6.before in let b9 = b7.before.before in let b25 = b9.before.before.before.before.before.before.before.before.before.before.before.before.before.before.before.before in (ends_last b25.args.cfg b25.args.rows.now (length b25.args.log.now / 12) b9.phases.left b9.phases.before (log_at b9.phases.log b9.phases.n) (at-phases b9) b9.phases.outcome b7.enum-told3.given.1 (phases_stop (log_at b9.phases.log b9.phases.n) b25.args.cfg b25.args.rows.now (at-phases b9) (turn_of b25.args.cfg b25.args.rows.now (at-phases b9) b6.Job-of.result (b6.Job-of.ensures b25.args.cfg (at-phases b9)) b4.enum-told4.given.1)) refl (sym (b2.after-pause.ensures (at-phases b9) (b3.counts-fit2.ensures (at-phases b9) refl)) ∙ c.enum-told5.given.1) ∙ b9.phases.invariant.0, b9.phases.invariant.1, λ e. ((b9.phases.invariant.2 b7.enum-told3.given.1).0, (b9.phases.invariant.2 b7.enum-told3.given.1).1))
+    (ends_last c.args.cfg c.args.rows.now (length c.args.log.now / 12) c.phases.left c.phases.before (log_at c.phases.log c.phases.n) (at-phases c.before.before.before.before.before.before) c.phases.outcome c.in-Ran-outcome.is (phases_stop (log_at c.phases.log c.phases.n) c.args.cfg c.args.rows.now (at-phases c.before.before.before.before.before.before) (turn_of c.args.cfg c.args.rows.now (at-phases c.before.before.before.before.before.before) c.job_of-job.result (c.job_of-job.ensures c.args.cfg (at-phases c.before.before.before.before.before.before)) c.in-Stop.is)) refl (sym (c.after_pause-to.ensures (at-phases c.before.before.before.before.before.before) (c.counts_fit-in-Stop.ensures (at-phases c.before.before.before.before.before.before) refl)) ∙ c.in_default-to.is) ∙ c.phases.invariant.0, c.phases.invariant.1, λ e. ((c.phases.invariant.2 c.in-Ran-outcome.is).0, (c.phases.invariant.2 c.in-Ran-outcome.is).1))
 
 -- a pass follows
-phases-less-2 : tie.Need-phases-smaller-2 invariant-loop2 decreases-loop2 invariant-loop3 decreases-loop3 invariant-loop decreases-loop invariant-loop4 decreases-loop4 invariant-phases decreases-phases
+phases-less-2 : tie.Need-phases-smaller-in-Stop invariant-loop2 decreases-loop2 invariant-loop3 decreases-loop3 invariant-loop decreases-loop invariant-loop4 decreases-loop4 invariant-phases decreases-phases
 phases-less-2 c =
-    let b1 = c.before in let b3 = b1.before.before in let b4 = b3.before in let b8 = b4.before.before.before.before in let b10 = b8.before.before in let b26 = b10.before.before.before.before.before.before.before.before.before.before.before.before.before.before.before.before in fuel_falls b10.phases.outcome b10.phases.outcome _ _ b8.enum-told3.given.1 (λ _. pass_falls b26.args.rows.now (length b26.args.log.now / 12) b10.phases.left b10.phases.n (at-phases b10) _ _ (sym (b3.after-pause.ensures (at-phases b10) (b4.counts-fit2.ensures (at-phases b10) refl)) ∙ b1.to.given.1))
+    fuel_falls c.phases.outcome c.phases.outcome _ _ c.in-Ran-outcome.is (λ _. pass_falls c.args.rows.now (length c.args.log.now / 12) c.phases.left c.phases.n (at-phases c.before.before.before.before.before.before) _ _ (sym (c.after_pause-to.ensures (at-phases c.before.before.before.before.before.before) (c.counts_fit-in-Stop.ensures (at-phases c.before.before.before.before.before.before) refl)) ∙ c.in-With.is))
 
-phases-again-2 : tie.Need-phases-preserved-2 invariant-loop2 decreases-loop2 invariant-loop3 decreases-loop3 invariant-loop decreases-loop invariant-loop4 decreases-loop4 invariant-phases decreases-phases
+phases-again-2 : tie.Need-phases-preserved-in-Stop invariant-loop2 decreases-loop2 invariant-loop3 decreases-loop3 invariant-loop decreases-loop invariant-loop4 decreases-loop4 invariant-phases decreases-phases
 phases-again-2 c =
-    let b1 = c.before in let b3 = b1.before.before in let b4 = b3.before in let b5 = b4.before in let b7 = b5.before.before in let b8 = b7.before in let b10 = b8.before.before in let b26 = b10.before.before.before.before.before.before.before.before.before.before.before.before.before.before.before.before in (turns-on b8 b10.phases.outcome b8.enum-told3.given.1 _ _ _ _ (passes_on b26.args.cfg b26.args.rows.now (length b26.args.log.now / 12) b10.phases.left b10.phases.before (log_at b10.phases.log b10.phases.n) (at-phases b10) (turn_of b26.args.cfg b26.args.rows.now (at-phases b10) b7.Job-of.result (b7.Job-of.ensures b26.args.cfg (at-phases b10)) b5.enum-told4.given.1) _ _ (sym (b3.after-pause.ensures (at-phases b10) (b4.counts-fit2.ensures (at-phases b10) refl)) ∙ b1.to.given.1)), b10.phases.invariant.1, b10.phases.invariant.2)
+    (turns-on c.before.before.before.before.before c.phases.outcome c.in-Ran-outcome.is _ _ _ _ (passes_on c.args.cfg c.args.rows.now (length c.args.log.now / 12) c.phases.left c.phases.before (log_at c.phases.log c.phases.n) (at-phases c.before.before.before.before.before.before) (turn_of c.args.cfg c.args.rows.now (at-phases c.before.before.before.before.before.before) c.job_of-job.result (c.job_of-job.ensures c.args.cfg (at-phases c.before.before.before.before.before.before)) c.in-Stop.is) _ _ (sym (c.after_pause-to.ensures (at-phases c.before.before.before.before.before.before) (c.counts_fit-in-Stop.ensures (at-phases c.before.before.before.before.before.before) refl)) ∙ c.in-With.is)), c.phases.invariant.1, c.phases.invariant.2)
 
 -- no such row
-phases-less-3 : tie.Need-phases-smaller-3 invariant-loop2 decreases-loop2 invariant-loop3 decreases-loop3 invariant-loop decreases-loop invariant-loop4 decreases-loop4 invariant-phases decreases-phases
+phases-less-3 : tie.Need-phases-smaller-in-Fail invariant-loop2 decreases-loop2 invariant-loop3 decreases-loop3 invariant-loop decreases-loop invariant-loop4 decreases-loop4 invariant-phases decreases-phases
 phases-less-3 c =
-    let b3 = c.before.before.before in let b5 = b3.before.before in fuel-stops (Halt CounterOverflow) b5.phases.outcome _ _ b3.enum-told3.given.1 (inr (inl refl))
+    fuel-stops (Halt CounterOverflow) c.phases.outcome _ _ c.in-Ran-outcome.is (λ e. cc)
 
-phases-again-3 : tie.Need-phases-preserved-3 invariant-loop2 decreases-loop2 invariant-loop3 decreases-loop3 invariant-loop decreases-loop invariant-loop4 decreases-loop4 invariant-phases decreases-phases
+phases-again-3 : tie.Need-phases-preserved-in-Fail invariant-loop2 decreases-loop2 invariant-loop3 decreases-loop3 invariant-loop decreases-loop invariant-loop4 decreases-loop4 invariant-phases decreases-phases
 phases-again-3 c =
-    let b2 = c.before.before in let b3 = b2.before in let b5 = b3.before.before in let b21 = b5.before.before.before.before.before.before.before.before.before.before.before.before.before.before.before.before in (ends-halt b21.args.cfg b21.args.rows.now (length b21.args.log.now / 12) b5.phases.left b5.phases.before (log_at b5.phases.log b5.phases.n) (at-phases b5) b5.phases.outcome b3.enum-told3.given.1 (phases-left b21.args.cfg b21.args.rows.now (at-phases b5) _ (turn_of b21.args.cfg b21.args.rows.now (at-phases b5) b2.Job-of.result (b2.Job-of.ensures b21.args.cfg (at-phases b5)) c.enum-told6.given.1) (log_at b5.phases.log b5.phases.n) (expected-halt (log_at b5.phases.log b5.phases.n) CounterOverflow (at-phases b5)) (inr (inl refl))) (inr (inl refl)) CounterOverflow refl ∙ b5.phases.invariant.0, b5.phases.invariant.1, λ e. ((b5.phases.invariant.2 b3.enum-told3.given.1).0, (b5.phases.invariant.2 b3.enum-told3.given.1).1))
+    (ends-halt c.args.cfg c.args.rows.now (length c.args.log.now / 12) c.phases.left c.phases.before (log_at c.phases.log c.phases.n) (at-phases c.before.before.before) c.phases.outcome c.in-Ran-outcome.is (phases-left c.args.cfg c.args.rows.now (at-phases c.before.before.before) _ (turn_of c.args.cfg c.args.rows.now (at-phases c.before.before.before) c.job_of-job.result (c.job_of-job.ensures c.args.cfg (at-phases c.before.before.before)) c.in-Fail.is) (log_at c.phases.log c.phases.n) (expected-halt (log_at c.phases.log c.phases.n) CounterOverflow (at-phases c.before.before.before)) (λ e. cc)) (λ e. cc) CounterOverflow refl ∙ c.phases.invariant.0, c.phases.invariant.1, λ e. ((c.phases.invariant.2 c.in-Ran-outcome.is).0, (c.phases.invariant.2 c.in-Ran-outcome.is).1))
 
 -- a delivery: the walk goes on, or stops
-loop-less-3 : tie.Need-loop-smaller-3 invariant-loop2 decreases-loop2 invariant-loop3 decreases-loop3 invariant-loop decreases-loop invariant-loop4 decreases-loop4 invariant-phases decreases-phases
+loop-less-3 : tie.Need-loop-outcome-smaller invariant-loop2 decreases-loop2 invariant-loop3 decreases-loop3 invariant-loop decreases-loop invariant-loop4 decreases-loop4 invariant-phases decreases-phases
 loop-less-3 c =
-    let b4 = c.before.before.before.before in let b6 = b4.before.before in let b7 = b6.before in let b8 = b7.before in let b10 = b8.before.before in let b13 = b10.before.before.before in let b15 = b13.before.before in let b17 = b15.before.before in let b18 = b17.before in let b20 = b18.before.before in let b22 = b20.before.before in let b43 = b22.before.before.before.before.before.before.before.before.before.before.before.before.before.before.before.before.before.before.before.before.before in walk_spends b43.args.cfg b22.job.given.0.1.1.0.ts_ns (at-loop b20) b17.next_of.result (b17.next_of.ensures (at-loop b20)) b20.loop.log b20.loop.n _ _ b15.next.given.1 Delivery b13.max.result b10.enum-told12.given.1 b13.max.ensures _ _ (delivered b20.loop.log _ b20.loop.n b20.loop.control (clocked b13.max.result b20.loop.v) b20.loop.orders b20.loop.msgs b20.loop.awaiting b20.loop.deliveries b20.loop.observed b20.loop.agent b20.loop.account _ (sym (entry_in 24 (deliveries_row b20.loop.deliveries) blank_delivery 0 (due-del b10).1 (due-del b10).0)) b6.blank.result b6.blank.ensures (omega (arith, b7.loop2-test.false)) b8.loop2.invariant.0 b4.deliver.result b4.deliver.ensures) b20.loop.outcome b18.enum-told8.given.1
+    walk_spends c.args.cfg c.in-Row.row.ts_ns (at-loop c.before.before.before.before.before.before.before.before.before.before.before.before.before.before.before.before) c.next_of-next.result (c.next_of-next.ensures (at-loop c.before.before.before.before.before.before.before.before.before.before.before.before.before.before.before.before)) c.loop-outcome.log c.loop-outcome.n _ _ c.in-At.is Delivery c.max-now_ns.result c.in-Delivery.is c.max-now_ns.ensures _ _ (delivered c.loop-outcome.log _ c.loop-outcome.n c.loop-outcome.control (clocked c.max-now_ns.result c.loop-outcome.v) c.loop-outcome.orders c.loop-outcome.msgs c.loop-outcome.awaiting c.loop-outcome.deliveries c.loop-outcome.observed c.loop-outcome.agent c.loop-outcome.account _ (sym (entry_in 24 (deliveries_row c.loop-outcome.deliveries) blank_delivery 0 (due-del c.before.before.before.before.before.before.before.before.before.before).1 (due-del c.before.before.before.before.before.before.before.before.before.before).0)) c.blank.result c.blank.ensures (omega (arith, c.loop-i-test.false)) c.loop-i.invariant.0 c.deliver-h.result c.deliver-h.ensures) c.loop-outcome.outcome c.in-Ran-outcome-2.is
 
-loop-again-3 : tie.Need-loop-preserved-3 invariant-loop2 decreases-loop2 invariant-loop3 decreases-loop3 invariant-loop decreases-loop invariant-loop4 decreases-loop4 invariant-phases decreases-phases
+loop-again-3 : tie.Need-loop-outcome-preserved invariant-loop2 decreases-loop2 invariant-loop3 decreases-loop3 invariant-loop decreases-loop invariant-loop4 decreases-loop4 invariant-phases decreases-phases
 loop-again-3 c =
-    let b4 = c.before.before.before.before in let b6 = b4.before.before in let b7 = b6.before in let b8 = b7.before in let b10 = b8.before.before in let b13 = b10.before.before.before in let b15 = b13.before.before in let b17 = b15.before.before in let b18 = b17.before in let b20 = b18.before.before in let b22 = b20.before.before in let b43 = b22.before.before.before.before.before.before.before.before.before.before.before.before.before.before.before.before.before.before.before.before.before in ((λ k. walk_steps b43.args.cfg b22.job.given.0.1.1.0.ts_ns (at-loop b20) b17.next_of.result (b17.next_of.ensures (at-loop b20)) b20.loop.log b20.loop.n _ _ b15.next.given.1 Delivery b13.max.result b10.enum-told12.given.1 b13.max.ensures _ _ (delivered b20.loop.log _ b20.loop.n b20.loop.control (clocked b13.max.result b20.loop.v) b20.loop.orders b20.loop.msgs b20.loop.awaiting b20.loop.deliveries b20.loop.observed b20.loop.agent b20.loop.account _ (sym (entry_in 24 (deliveries_row b20.loop.deliveries) blank_delivery 0 (due-del b10).1 (due-del b10).0)) b6.blank.result b6.blank.ensures (omega (arith, b7.loop2-test.false)) b8.loop2.invariant.0 b4.deliver.result b4.deliver.ensures) k ∙ walk-goes b18 k), b20.loop.invariant.1, b4.deliver.auto.0 ∙ b20.loop.invariant.2, length-set b8.loop2.deliveries.slots _ _ ∙ b8.loop2.invariant.1, b20.loop.invariant.4)
+    ((λ k. walk_steps c.args.cfg c.in-Row.row.ts_ns (at-loop c.before.before.before.before.before.before.before.before.before.before.before.before.before.before.before.before) c.next_of-next.result (c.next_of-next.ensures (at-loop c.before.before.before.before.before.before.before.before.before.before.before.before.before.before.before.before)) c.loop-outcome.log c.loop-outcome.n _ _ c.in-At.is Delivery c.max-now_ns.result c.in-Delivery.is c.max-now_ns.ensures _ _ (delivered c.loop-outcome.log _ c.loop-outcome.n c.loop-outcome.control (clocked c.max-now_ns.result c.loop-outcome.v) c.loop-outcome.orders c.loop-outcome.msgs c.loop-outcome.awaiting c.loop-outcome.deliveries c.loop-outcome.observed c.loop-outcome.agent c.loop-outcome.account _ (sym (entry_in 24 (deliveries_row c.loop-outcome.deliveries) blank_delivery 0 (due-del c.before.before.before.before.before.before.before.before.before.before).1 (due-del c.before.before.before.before.before.before.before.before.before.before).0)) c.blank.result c.blank.ensures (omega (arith, c.loop-i-test.false)) c.loop-i.invariant.0 c.deliver-h.result c.deliver-h.ensures) k ∙ walk-goes c.before.before.before.before.before.before.before.before.before.before.before.before.before.before.before k), c.loop-outcome.invariant.1, c.deliver-h.auto.log ∙ c.loop-outcome.invariant.2, length-set c.loop-i.deliveries.slots _ _ ∙ c.loop-i.invariant.1, c.loop-outcome.invariant.4)
 
 -- an observation leaves the walk
-phases-less-4 : tie.Need-phases-smaller-4 invariant-loop2 decreases-loop2 invariant-loop3 decreases-loop3 invariant-loop decreases-loop invariant-loop4 decreases-loop4 invariant-phases decreases-phases
+phases-less-4 : tie.Need-phases-smaller-in-Observation invariant-loop2 decreases-loop2 invariant-loop3 decreases-loop3 invariant-loop decreases-loop invariant-loop4 decreases-loop4 invariant-phases decreases-phases
 phases-less-4 c =
-    let b4 = c.before.before.before.before in let b6 = b4.before.before in let b8 = b6.before.before in let b13 = b8.before.before.before.before.before in let b20 = b13.before.before.before.before.before.before.before in let b22 = b20.before.before in let b25 = b22.before.before.before in let b27 = b25.before.before in let b43 = b27.before.before.before.before.before.before.before.before.before.before.before.before.before.before.before.before in fuel_falls b20.loop.outcome b27.phases.outcome _ _ b25.enum-told3.given.1 (λ _. let h = look_falls b43.args.cfg b43.args.rows.now (at-phases b27) (state_of b4.look.result.control (clocked b13.max.result b20.loop.v) b20.loop.orders b20.loop.msgs b20.loop.awaiting b20.loop.deliveries (record { slots = set b8.loop3.observed.slots (b20.loop.observed.count - 1) b6.blank2.result; count = b20.loop.observed.count - 1 }) b4.look.result.agent b20.loop.account) _ (turn b22) (b4.look.ensures.1 b43.args.cfg b43.args.rows.now (state_of b4.look.result.control (clocked b13.max.result b20.loop.v) b20.loop.orders b20.loop.msgs b20.loop.awaiting b20.loop.deliveries (record { slots = set b8.loop3.observed.slots (b20.loop.observed.count - 1) b6.blank2.result; count = b20.loop.observed.count - 1 }) b4.look.result.agent b20.loop.account)) (look_cursor (log_at b20.loop.log b20.loop.n) _ b43.args.cfg _ (state_of b20.loop.control (clocked b13.max.result b20.loop.v) b20.loop.orders b20.loop.msgs b20.loop.awaiting b20.loop.deliveries (record { slots = set b8.loop3.observed.slots (b20.loop.observed.count - 1) b6.blank2.result; count = b20.loop.observed.count - 1 }) b20.loop.agent b20.loop.account) b20.loop.control b20.loop.agent b4.look.result (b4.look.ensures.0 (state_of b20.loop.control (clocked b13.max.result b20.loop.v) b20.loop.orders b20.loop.msgs b20.loop.awaiting b20.loop.deliveries (record { slots = set b8.loop3.observed.slots (b20.loop.observed.count - 1) b6.blank2.result; count = b20.loop.observed.count - 1 }) b20.loop.agent b20.loop.account) refl) ∙ ap (λ (x : Control). x.cursor) b20.loop.invariant.1) in omega (arith, h))
+    fuel_falls c.loop-outcome.outcome c.phases.outcome _ _ c.in-Ran-outcome.is (λ _. let h = look_falls c.args.cfg c.args.rows.now (at-phases c.before.before.before.before.before.before.before.before.before.before.before.before.before.before.before.before.before.before.before.before) (state_of c.look-l.result.control (clocked c.max-now_ns.result c.loop-outcome.v) c.loop-outcome.orders c.loop-outcome.msgs c.loop-outcome.awaiting c.loop-outcome.deliveries (record { slots = set c.loop-i-2.observed.slots (c.loop-outcome.observed.count - 1) c.blank-in-Observation.result; count = c.loop-outcome.observed.count - 1 }) c.look-l.result.agent c.loop-outcome.account) _ (turn c.before.before.before.before.before.before.before.before.before.before.before.before.before.before.before.before.before) (c.look-l.ensures.1 c.args.cfg c.args.rows.now (state_of c.look-l.result.control (clocked c.max-now_ns.result c.loop-outcome.v) c.loop-outcome.orders c.loop-outcome.msgs c.loop-outcome.awaiting c.loop-outcome.deliveries (record { slots = set c.loop-i-2.observed.slots (c.loop-outcome.observed.count - 1) c.blank-in-Observation.result; count = c.loop-outcome.observed.count - 1 }) c.look-l.result.agent c.loop-outcome.account)) (look_cursor (log_at c.loop-outcome.log c.loop-outcome.n) _ c.args.cfg _ (state_of c.loop-outcome.control (clocked c.max-now_ns.result c.loop-outcome.v) c.loop-outcome.orders c.loop-outcome.msgs c.loop-outcome.awaiting c.loop-outcome.deliveries (record { slots = set c.loop-i-2.observed.slots (c.loop-outcome.observed.count - 1) c.blank-in-Observation.result; count = c.loop-outcome.observed.count - 1 }) c.loop-outcome.agent c.loop-outcome.account) c.loop-outcome.control c.loop-outcome.agent c.look-l.result (c.look-l.ensures.0 (state_of c.loop-outcome.control (clocked c.max-now_ns.result c.loop-outcome.v) c.loop-outcome.orders c.loop-outcome.msgs c.loop-outcome.awaiting c.loop-outcome.deliveries (record { slots = set c.loop-i-2.observed.slots (c.loop-outcome.observed.count - 1) c.blank-in-Observation.result; count = c.loop-outcome.observed.count - 1 }) c.loop-outcome.agent c.loop-outcome.account) refl) ∙ ap (λ (x : Control). x.cursor) c.loop-outcome.invariant.1) in omega (arith, h))
 
-phases-again-4 : tie.Need-phases-preserved-4 invariant-loop2 decreases-loop2 invariant-loop3 decreases-loop3 invariant-loop decreases-loop invariant-loop4 decreases-loop4 invariant-phases decreases-phases
+phases-again-4 : tie.Need-phases-preserved-in-Observation invariant-loop2 decreases-loop2 invariant-loop3 decreases-loop3 invariant-loop decreases-loop invariant-loop4 decreases-loop4 invariant-phases decreases-phases
 phases-again-4 c =
-    let b4 = c.before.before.before.before in let b6 = b4.before.before in let b7 = b6.before in let b8 = b7.before in let b10 = b8.before.before in let b13 = b10.before.before.before in let b15 = b13.before.before in let b17 = b15.before.before in let b18 = b17.before in let b20 = b18.before.before in let b22 = b20.before.before in let b25 = b22.before.before.before in let b27 = b25.before.before in let b43 = b27.before.before.before.before.before.before.before.before.before.before.before.before.before.before.before.before in (turns-on b25 b20.loop.outcome b18.enum-told8.given.1 b27.phases.left b27.phases.before _ (state_of b4.look.result.control (clocked b13.max.result b20.loop.v) b20.loop.orders b20.loop.msgs b20.loop.awaiting b20.loop.deliveries (record { slots = set b8.loop3.observed.slots (b20.loop.observed.count - 1) b6.blank2.result; count = b20.loop.observed.count - 1 }) b4.look.result.agent b20.loop.account) (looks_on b43.args.cfg b43.args.rows.now (length b43.args.log.now / 12) b27.phases.left b27.phases.before (log_at b27.phases.log b27.phases.n) _ (at-phases b27) (state_of b4.look.result.control (clocked b13.max.result b20.loop.v) b20.loop.orders b20.loop.msgs b20.loop.awaiting b20.loop.deliveries (record { slots = set b8.loop3.observed.slots (b20.loop.observed.count - 1) b6.blank2.result; count = b20.loop.observed.count - 1 }) b4.look.result.agent b20.loop.account) (walk_out (log_at b27.phases.log b27.phases.n) b43.args.cfg b43.args.rows.now b22.job.given.0.0 b22.job.given.0.1.0 b22.job.given.0.1.1.0 (at-phases b27) (turn b22) (walk_stops_then b43.args.cfg b22.job.given.0.1.1.0.ts_ns (at-loop b20) b17.next_of.result (b17.next_of.ensures (at-loop b20)) b20.loop.log b20.loop.n _ _ b15.next.given.1 Observation b13.max.result b10.enum-told13.given.1 b13.max.ensures _ _ (looked b20.loop.log _ b20.loop.n b43.args.cfg b20.loop.control (clocked b13.max.result b20.loop.v) b20.loop.orders b20.loop.msgs b20.loop.awaiting b20.loop.deliveries b20.loop.observed b20.loop.agent b20.loop.account _ (sym (entry_in 16 (observed_row b20.loop.observed) blank_obs 0 (due-obs b10).1 (due-obs b10).0)) b6.blank2.result b6.blank2.ensures (omega (arith, b7.loop3-test.false)) b8.loop3.invariant.0 b4.look.result b4.look.ensures.0) (inl refl) (behind b22.job.given.0.0 b43.args.cfg b43.args.rows.now b22.job.given.0.1.0 b22.job.given.0.1.1.0) ∙ walk-goes b18 (behind b22.job.given.0.0 b43.args.cfg b43.args.rows.now b22.job.given.0.1.0 b22.job.given.0.1.1.0)) (inl refl)) (b4.look.ensures.1 b43.args.cfg b43.args.rows.now (state_of b4.look.result.control (clocked b13.max.result b20.loop.v) b20.loop.orders b20.loop.msgs b20.loop.awaiting b20.loop.deliveries (record { slots = set b8.loop3.observed.slots (b20.loop.observed.count - 1) b6.blank2.result; count = b20.loop.observed.count - 1 }) b4.look.result.agent b20.loop.account))), b4.look.auto.0 ∙ b20.loop.invariant.2 ∙ b27.phases.invariant.1, λ e. (b20.loop.invariant.3, length-set b8.loop3.observed.slots _ _ ∙ b8.loop3.invariant.1))
+    (turns-on c.before.before.before.before.before.before.before.before.before.before.before.before.before.before.before.before.before.before.before c.loop-outcome.outcome c.in-Ran-outcome-2.is c.phases.left c.phases.before _ (state_of c.look-l.result.control (clocked c.max-now_ns.result c.loop-outcome.v) c.loop-outcome.orders c.loop-outcome.msgs c.loop-outcome.awaiting c.loop-outcome.deliveries (record { slots = set c.loop-i-2.observed.slots (c.loop-outcome.observed.count - 1) c.blank-in-Observation.result; count = c.loop-outcome.observed.count - 1 }) c.look-l.result.agent c.loop-outcome.account) (looks_on c.args.cfg c.args.rows.now (length c.args.log.now / 12) c.phases.left c.phases.before (log_at c.phases.log c.phases.n) _ (at-phases c.before.before.before.before.before.before.before.before.before.before.before.before.before.before.before.before.before.before.before.before) (state_of c.look-l.result.control (clocked c.max-now_ns.result c.loop-outcome.v) c.loop-outcome.orders c.loop-outcome.msgs c.loop-outcome.awaiting c.loop-outcome.deliveries (record { slots = set c.loop-i-2.observed.slots (c.loop-outcome.observed.count - 1) c.blank-in-Observation.result; count = c.loop-outcome.observed.count - 1 }) c.look-l.result.agent c.loop-outcome.account) (walk_out (log_at c.phases.log c.phases.n) c.args.cfg c.args.rows.now c.in-Row.work c.in-Row.index c.in-Row.row (at-phases c.before.before.before.before.before.before.before.before.before.before.before.before.before.before.before.before.before.before.before.before) (turn c.before.before.before.before.before.before.before.before.before.before.before.before.before.before.before.before.before) (walk_stops_then c.args.cfg c.in-Row.row.ts_ns (at-loop c.before.before.before.before.before.before.before.before.before.before.before.before.before.before.before.before) c.next_of-next.result (c.next_of-next.ensures (at-loop c.before.before.before.before.before.before.before.before.before.before.before.before.before.before.before.before)) c.loop-outcome.log c.loop-outcome.n _ _ c.in-At.is Observation c.max-now_ns.result c.in-Observation.is c.max-now_ns.ensures _ _ (looked c.loop-outcome.log _ c.loop-outcome.n c.args.cfg c.loop-outcome.control (clocked c.max-now_ns.result c.loop-outcome.v) c.loop-outcome.orders c.loop-outcome.msgs c.loop-outcome.awaiting c.loop-outcome.deliveries c.loop-outcome.observed c.loop-outcome.agent c.loop-outcome.account _ (sym (entry_in 16 (observed_row c.loop-outcome.observed) blank_obs 0 (due-obs c.before.before.before.before.before.before.before.before.before.before).1 (due-obs c.before.before.before.before.before.before.before.before.before.before).0)) c.blank-in-Observation.result c.blank-in-Observation.ensures (omega (arith, c.loop-i-2-test.false)) c.loop-i-2.invariant.0 c.look-l.result c.look-l.ensures.0) (λ e. cc) (behind c.in-Row.work c.args.cfg c.args.rows.now c.in-Row.index c.in-Row.row) ∙ walk-goes c.before.before.before.before.before.before.before.before.before.before.before.before.before.before.before (behind c.in-Row.work c.args.cfg c.args.rows.now c.in-Row.index c.in-Row.row)) (λ e. cc)) (c.look-l.ensures.1 c.args.cfg c.args.rows.now (state_of c.look-l.result.control (clocked c.max-now_ns.result c.loop-outcome.v) c.loop-outcome.orders c.loop-outcome.msgs c.loop-outcome.awaiting c.loop-outcome.deliveries (record { slots = set c.loop-i-2.observed.slots (c.loop-outcome.observed.count - 1) c.blank-in-Observation.result; count = c.loop-outcome.observed.count - 1 }) c.look-l.result.agent c.loop-outcome.account))), c.look-l.auto.log ∙ c.loop-outcome.invariant.2 ∙ c.phases.invariant.1, λ e. (c.loop-outcome.invariant.3, length-set c.loop-i-2.observed.slots _ _ ∙ c.loop-i-2.invariant.1))
 
 -- a message or a delivery stopped the walk
-phases-less-5 : tie.Need-phases-smaller-5 invariant-loop2 decreases-loop2 invariant-loop3 decreases-loop3 invariant-loop decreases-loop invariant-loop4 decreases-loop4 invariant-phases decreases-phases
+phases-less-5 : tie.Need-phases-smaller-in_default-outcome-3 invariant-loop2 decreases-loop2 invariant-loop3 decreases-loop3 invariant-loop decreases-loop invariant-loop4 decreases-loop4 invariant-phases decreases-phases
 phases-less-5 c =
-    let b1 = c.before in let b7 = b1.before.before.before.before.before.before in let b9 = b7.before.before in fuel-stops b1.match5.outcome b9.phases.outcome _ _ b7.enum-told3.given.1 c.match9.keys2
+    fuel-stops c.match-outcome-2.outcome c.phases.outcome _ _ c.in-Ran-outcome.is c.in_default-outcome-3.not-Ran
 
-phases-again-5 : tie.Need-phases-preserved-5 invariant-loop2 decreases-loop2 invariant-loop3 decreases-loop3 invariant-loop decreases-loop invariant-loop4 decreases-loop4 invariant-phases decreases-phases
+phases-again-5 : tie.Need-phases-preserved-in_default-outcome-3 invariant-loop2 decreases-loop2 invariant-loop3 decreases-loop3 invariant-loop decreases-loop invariant-loop4 decreases-loop4 invariant-phases decreases-phases
 phases-again-5 c =
-    let b1 = c.before in let b2 = b1.before in let b4 = b2.before.before in let b7 = b4.before.before.before in let b9 = b7.before.before in let b25 = b9.before.before.before.before.before.before.before.before.before.before.before.before.before.before.before.before in (ends_at b7 b1.match5.outcome (at-loop b2) (log_at b2.loop.log b2.loop.n) (walk_out (log_at b9.phases.log b9.phases.n) b25.args.cfg b25.args.rows.now b4.job.given.0.0 b4.job.given.0.1.0 b4.job.given.0.1.1.0 (at-phases b9) (turn b4) (steps_stop b1.match5.outcome c.match9.keys2 (log_at b2.loop.log b2.loop.n) (at-loop b2) (λ u. and_then (run_events b25.args.cfg b4.job.given.0.1.1.0.ts_ns u) (behind b4.job.given.0.0 b25.args.cfg b25.args.rows.now b4.job.given.0.1.0 b4.job.given.0.1.1.0)) ∙ ap (λ (o : Outcome). steps_on o (log_at b2.loop.log b2.loop.n) (at-loop b2) (λ u. and_then (run_events b25.args.cfg b4.job.given.0.1.1.0.ts_ns u) (behind b4.job.given.0.0 b25.args.cfg b25.args.rows.now b4.job.given.0.1.0 b4.job.given.0.1.1.0))) (walk-left b1) ∙ b2.loop.invariant.0 (behind b4.job.given.0.0 b25.args.cfg b25.args.rows.now b4.job.given.0.1.0 b4.job.given.0.1.1.0)) c.match9.keys2) c.match9.keys2 (waits-not b2), b2.loop.invariant.2 ∙ b9.phases.invariant.1, λ e. (b2.loop.invariant.3, b2.loop.invariant.4))
+    (ends_at c.before.before.before.before.before c.match-outcome-2.outcome (at-loop c.before.before) (log_at c.loop-outcome.log c.loop-outcome.n) (walk_out (log_at c.phases.log c.phases.n) c.args.cfg c.args.rows.now c.in-Row.work c.in-Row.index c.in-Row.row (at-phases c.before.before.before.before.before.before) (turn c.before.before.before) (steps_stop c.match-outcome-2.outcome c.in_default-outcome-3.not-Ran (log_at c.loop-outcome.log c.loop-outcome.n) (at-loop c.before.before) (λ u. and_then (run_events c.args.cfg c.in-Row.row.ts_ns u) (behind c.in-Row.work c.args.cfg c.args.rows.now c.in-Row.index c.in-Row.row)) ∙ ap (λ (o : Outcome). steps_on o (log_at c.loop-outcome.log c.loop-outcome.n) (at-loop c.before.before) (λ u. and_then (run_events c.args.cfg c.in-Row.row.ts_ns u) (behind c.in-Row.work c.args.cfg c.args.rows.now c.in-Row.index c.in-Row.row))) (walk-left c.before) ∙ c.loop-outcome.invariant.0 (behind c.in-Row.work c.args.cfg c.args.rows.now c.in-Row.index c.in-Row.row)) c.in_default-outcome-3.not-Ran) c.in_default-outcome-3.not-Ran (waits-not c.before.before), c.loop-outcome.invariant.2 ∙ c.phases.invariant.1, λ e. (c.loop-outcome.invariant.3, c.loop-outcome.invariant.4))
 
 -- a row's end: its sum does not fit
-phases-less-6 : tie.Need-phases-smaller-6 invariant-loop2 decreases-loop2 invariant-loop3 decreases-loop3 invariant-loop decreases-loop invariant-loop4 decreases-loop4 invariant-phases decreases-phases
+phases-less-6 : tie.Need-phases-smaller-in_default-sum invariant-loop2 decreases-loop2 invariant-loop3 decreases-loop3 invariant-loop decreases-loop invariant-loop4 decreases-loop4 invariant-phases decreases-phases
 phases-less-6 c =
-    let b13 = c.before.before.before.before.before.before.before.before.before.before.before.before.before in let b15 = b13.before.before in fuel-stops (Halt LedgerOverflow) b15.phases.outcome _ _ b13.enum-told3.given.1 (inr (inl refl))
+    fuel-stops (Halt LedgerOverflow) c.phases.outcome _ _ c.in-Ran-outcome.is (λ e. cc)
 
-phases-again-6 : tie.Need-phases-preserved-6 invariant-loop2 decreases-loop2 invariant-loop3 decreases-loop3 invariant-loop decreases-loop invariant-loop4 decreases-loop4 invariant-phases decreases-phases
+phases-again-6 : tie.Need-phases-preserved-in_default-sum invariant-loop2 decreases-loop2 invariant-loop3 decreases-loop3 invariant-loop decreases-loop invariant-loop4 decreases-loop4 invariant-phases decreases-phases
 phases-again-6 c =
-    let b2 = c.before.before in let b3 = b2.before in let b5 = b3.before.before in let b8 = b5.before.before.before in let b10 = b8.before.before in let b12 = b10.before.before in let b13 = b12.before in let b15 = b13.before.before in let b31 = b15.before.before.before.before.before.before.before.before.before.before.before.before.before.before.before.before in (ends_at b13 (Halt LedgerOverflow) (at-loop b8) (log_at b8.loop.log b8.loop.n) (phases-left b31.args.cfg b31.args.rows.now (at-phases b15) _ (turn_of b31.args.cfg b31.args.rows.now (at-phases b15) b12.Job-of.result (b12.Job-of.ensures b31.args.cfg (at-phases b15)) (work_of b10.job.given.1 b3.enum-told15.given.1)) (log_at b15.phases.log b15.phases.n) (settle-past (log_at b15.phases.log b15.phases.n) b31.args.cfg b31.args.rows.now b10.job.given.0.1.0 b10.job.given.0.1.1.0 (at-phases b15) b8.loop.log b8.loop.n (at-loop b8) (walked b5) b2.checked-add.result b2.checked-add.ensures c.enum-told17.given.1) (inr (inl refl))) (inr (inl refl)) (waits-not b8), b8.loop.invariant.2 ∙ b15.phases.invariant.1, λ e. (b8.loop.invariant.3, b8.loop.invariant.4))
+    (ends_at c.before.before.before.before.before.before.before.before (Halt LedgerOverflow) (at-loop c.before.before.before.before.before) (log_at c.loop-outcome.log c.loop-outcome.n) (phases-left c.args.cfg c.args.rows.now (at-phases c.before.before.before.before.before.before.before.before.before) _ (turn_of c.args.cfg c.args.rows.now (at-phases c.before.before.before.before.before.before.before.before.before) c.job_of-job.result (c.job_of-job.ensures c.args.cfg (at-phases c.before.before.before.before.before.before.before.before.before)) (work_of c.in-Row.is c.in-Settle.is)) (log_at c.phases.log c.phases.n) (settle-past (log_at c.phases.log c.phases.n) c.args.cfg c.args.rows.now c.in-Row.index c.in-Row.row (at-phases c.before.before.before.before.before.before.before.before.before) c.loop-outcome.log c.loop-outcome.n (at-loop c.before.before.before.before.before) (walked c.before.before.before) c.checked_add-sum.result c.checked_add-sum.ensures c.in_default-sum.is) (λ e. cc)) (λ e. cc) (waits-not c.before.before.before.before.before), c.loop-outcome.invariant.2 ∙ c.phases.invariant.1, λ e. (c.loop-outcome.invariant.3, c.loop-outcome.invariant.4))
 
 -- a row's match: its sum does not fit
-phases-less-7 : tie.Need-phases-smaller-7 invariant-loop2 decreases-loop2 invariant-loop3 decreases-loop3 invariant-loop decreases-loop invariant-loop4 decreases-loop4 invariant-phases decreases-phases
+phases-less-7 : tie.Need-phases-smaller-in_default-outcome-4 invariant-loop2 decreases-loop2 invariant-loop3 decreases-loop3 invariant-loop decreases-loop invariant-loop4 decreases-loop4 invariant-phases decreases-phases
 phases-less-7 c =
-    let b2 = c.before.before in let b13 = b2.before.before.before.before.before.before.before.before.before.before.before in let b15 = b13.before.before in fuel-stops b2.open_row.result.outcome b15.phases.outcome _ _ b13.enum-told3.given.1 c.match12.keys2
+    fuel-stops c.open_row-open.result.outcome c.phases.outcome _ _ c.in-Ran-outcome.is c.in_default-outcome-4.not-Ran
 
-phases-again-7 : tie.Need-phases-preserved-7 invariant-loop2 decreases-loop2 invariant-loop3 decreases-loop3 invariant-loop decreases-loop invariant-loop4 decreases-loop4 invariant-phases decreases-phases
+phases-again-7 : tie.Need-phases-preserved-in_default-outcome-4 invariant-loop2 decreases-loop2 invariant-loop3 decreases-loop3 invariant-loop decreases-loop invariant-loop4 decreases-loop4 invariant-phases decreases-phases
 phases-again-7 c =
-    let b2 = c.before.before in let b3 = b2.before in let b5 = b3.before.before in let b8 = b5.before.before.before in let b10 = b8.before.before in let b15 = b10.before.before.before.before.before in let b31 = b15.before.before.before.before.before.before.before.before.before.before.before.before.before.before.before.before in (match-out b3 _ _ _ (match_past (log_at b15.phases.log b15.phases.n) b31.args.cfg b10.job.given.0.1.0 b10.job.given.0.1.1.0 (at-phases b15) b8.loop.log b8.loop.n (at-loop b8) (walked b5) (opened_in (at-loop b8) b8.loop.n b2.open_row.result) b8.loop.log (b2.open_row.ensures (at-loop b8) b8.loop.n b8.loop.log) c.match12.keys2) c.match12.keys2 (waits-not b8), b8.loop.invariant.2 ∙ b15.phases.invariant.1, λ e. (b8.loop.invariant.3, b8.loop.invariant.4))
+    (match-out c.before.before.before _ _ _ (match_past (log_at c.phases.log c.phases.n) c.args.cfg c.in-Row.index c.in-Row.row (at-phases c.before.before.before.before.before.before.before.before.before.before) c.loop-outcome.log c.loop-outcome.n (at-loop c.before.before.before.before.before.before) (walked c.before.before.before.before) (opened_in (at-loop c.before.before.before.before.before.before) c.loop-outcome.n c.open_row-open.result) c.loop-outcome.log (c.open_row-open.ensures (at-loop c.before.before.before.before.before.before) c.loop-outcome.n c.loop-outcome.log) c.in_default-outcome-4.not-Ran) c.in_default-outcome-4.not-Ran (waits-not c.before.before.before.before.before.before), c.loop-outcome.invariant.2 ∙ c.phases.invariant.1, λ e. (c.loop-outcome.invariant.3, c.loop-outcome.invariant.4))
 
 -- an order is not filled
-loop4-again : tie.Need-loop4-preserved invariant-loop2 decreases-loop2 invariant-loop3 decreases-loop3 invariant-loop decreases-loop invariant-loop4 decreases-loop4 invariant-phases decreases-phases
+loop4-again : tie.Need-loop-i-3-preserved-in-Nothing invariant-loop2 decreases-loop2 invariant-loop3 decreases-loop3 invariant-loop decreases-loop invariant-loop4 decreases-loop4 invariant-phases decreases-phases
 loop4-again c =
-    let b2 = c.before.before in let b4 = b2.before.before in let b5 = b4.before in let b6 = b5.before in let b18 = b6.before.before.before.before.before.before.before.before.before.before.before.before in let b39 = b18.before.before.before.before.before.before.before.before.before.before.before.before.before.before.before.before.before.before.before.before.before in ((λ k. place-past (log_at b5.loop4.log b5.loop4.n) b39.args.cfg b18.job.given.0.1.1.0 (b6.looks.result - b5.loop4.i) (b6.looks.result - (b5.loop4.i + 1)) b5.loop4.i (omega (arith, b4.loop4-test.true)) (at-pass b5) k _ (there b4) (sym b2.lots-of.ensures ∙ ap rule_fills c.enum-told20.given.1) ∙ b5.loop4.invariant.0 k), b5.loop4.invariant.1, omega (arith, b4.loop4-test.true), b5.loop4.invariant.3, b5.loop4.invariant.4)
+    ((λ k. place-past (log_at c.loop-i-3.log c.loop-i-3.n) c.args.cfg c.in-Row.row (c.looks-count.result - c.loop-i-3.i) (c.looks-count.result - (c.loop-i-3.i + 1)) c.loop-i-3.i (omega (arith, c.loop-i-3-test.true)) (at-pass c.before.before.before.before) k _ (there c.before.before.before) (sym c.lots_of-lots.ensures ∙ ap rule_fills c.in-Nothing.is) ∙ c.loop-i-3.invariant.0 k), c.loop-i-3.invariant.1, omega (arith, c.loop-i-3-test.true), c.loop-i-3.invariant.3, c.loop-i-3.invariant.4)
 
 -- the queue rule fails
-phases-less-8 : tie.Need-phases-smaller-8 invariant-loop2 decreases-loop2 invariant-loop3 decreases-loop3 invariant-loop decreases-loop invariant-loop4 decreases-loop4 invariant-phases decreases-phases
+phases-less-8 : tie.Need-phases-smaller-in-Fail-lots invariant-loop2 decreases-loop2 invariant-loop3 decreases-loop3 invariant-loop decreases-loop invariant-loop4 decreases-loop4 invariant-phases decreases-phases
 phases-less-8 c =
-    let b21 = c.before.before.before.before.before.before.before.before.before.before.before.before.before.before.before.before.before.before.before.before.before in let b23 = b21.before.before in fuel-stops (Halt CounterOverflow) b23.phases.outcome _ _ b21.enum-told3.given.1 (inr (inl refl))
+    fuel-stops (Halt CounterOverflow) c.phases.outcome _ _ c.in-Ran-outcome.is (λ e. cc)
 
-phases-again-8 : tie.Need-phases-preserved-8 invariant-loop2 decreases-loop2 invariant-loop3 decreases-loop3 invariant-loop decreases-loop invariant-loop4 decreases-loop4 invariant-phases decreases-phases
+phases-again-8 : tie.Need-phases-preserved-in-Fail-lots invariant-loop2 decreases-loop2 invariant-loop3 decreases-loop3 invariant-loop decreases-loop invariant-loop4 decreases-loop4 invariant-phases decreases-phases
 phases-again-8 c =
-    let b2 = c.before.before in let b4 = b2.before.before in let b5 = b4.before in let b6 = b5.before in let b11 = b6.before.before.before.before.before in let b16 = b11.before.before.before.before.before in let b18 = b16.before.before in let b23 = b18.before.before.before.before.before in let b39 = b23.before.before.before.before.before.before.before.before.before.before.before.before.before.before.before.before in (match-out b11 _ _ _ (passed b5 _ (place-fails (log_at b5.loop4.log b5.loop4.n) b39.args.cfg b18.job.given.0.1.1.0 (b6.looks.result - b5.loop4.i) (b6.looks.result - (b5.loop4.i + 1)) b5.loop4.i (omega (arith, b4.loop4-test.true)) (at-pass b5) (swept b39.args.cfg b18.job.given.0.1.0 b18.job.given.0.1.1.0) _ (there b4) (sym b2.lots-of.ensures ∙ ap rule_fills c.enum-told21.given.1))) (inr (inl refl)) (waits-not b16), b5.loop4.invariant.3 ∙ b16.loop.invariant.2 ∙ b23.phases.invariant.1, λ e. (b5.loop4.invariant.4, b16.loop.invariant.4))
+    (match-out c.before.before.before.before.before.before.before.before.before _ _ _ (passed c.before.before.before.before _ (place-fails (log_at c.loop-i-3.log c.loop-i-3.n) c.args.cfg c.in-Row.row (c.looks-count.result - c.loop-i-3.i) (c.looks-count.result - (c.loop-i-3.i + 1)) c.loop-i-3.i (omega (arith, c.loop-i-3-test.true)) (at-pass c.before.before.before.before) (swept c.args.cfg c.in-Row.index c.in-Row.row) _ (there c.before.before.before) (sym c.lots_of-lots.ensures ∙ ap rule_fills c.in-Fail-lots.is))) (λ e. cc) (waits-not c.before.before.before.before.before.before.before.before.before.before.before.before), c.loop-i-3.invariant.3 ∙ c.loop-outcome.invariant.2 ∙ c.phases.invariant.1, λ e. (c.loop-i-3.invariant.4, c.loop-outcome.invariant.4))
 
 -- a fill stops
-phases-less-9 : tie.Need-phases-smaller-9 invariant-loop2 decreases-loop2 invariant-loop3 decreases-loop3 invariant-loop decreases-loop invariant-loop4 decreases-loop4 invariant-phases decreases-phases
+phases-less-9 : tie.Need-phases-smaller-in_default-outcome-5 invariant-loop2 decreases-loop2 invariant-loop3 decreases-loop3 invariant-loop decreases-loop invariant-loop4 decreases-loop4 invariant-phases decreases-phases
 phases-less-9 c =
-    let b5 = c.before.before.before.before.before in let b30 = b5.before.before.before.before.before.before.before.before.before.before.before.before.before.before.before.before.before.before.before.before.before.before.before.before.before in let b32 = b30.before.before in fuel-stops b5.fill-order.result.outcome b32.phases.outcome _ _ b30.enum-told3.given.1 c.match14.keys2
+    fuel-stops c.fill_order-f.result.outcome c.phases.outcome _ _ c.in-Ran-outcome.is c.in_default-outcome-5.not-Ran
 
-phases-again-9 : tie.Need-phases-preserved-9 invariant-loop2 decreases-loop2 invariant-loop3 decreases-loop3 invariant-loop decreases-loop invariant-loop4 decreases-loop4 invariant-phases decreases-phases
+phases-again-9 : tie.Need-phases-preserved-in_default-outcome-5 invariant-loop2 decreases-loop2 invariant-loop3 decreases-loop3 invariant-loop decreases-loop invariant-loop4 decreases-loop4 invariant-phases decreases-phases
 phases-again-9 c =
-    let b5 = c.before.before.before.before.before in let b9 = b5.before.before.before.before in let b11 = b9.before.before in let b13 = b11.before.before in let b14 = b13.before in let b15 = b14.before in let b20 = b15.before.before.before.before.before in let b25 = b20.before.before.before.before.before in let b27 = b25.before.before in let b32 = b27.before.before.before.before.before in let b48 = b32.before.before.before.before.before.before.before.before.before.before.before.before.before.before.before.before in (match-out b20 _ _ _ (passed b14 _ (place-stops (log_at b14.loop4.log b14.loop4.n) b48.args.cfg b27.job.given.0.1.1.0 (b15.looks.result - b14.loop4.i) (b15.looks.result - (b14.loop4.i + 1)) b14.loop4.i (omega (arith, b13.loop4-test.true)) (at-pass b14) (swept b48.args.cfg b27.job.given.0.1.0 b27.job.given.0.1.1.0) _ (there b13) _ _ ((sym b11.lots-of.ensures ∙ ap rule_fills b9.lots.given.1) ∙ ap (λ (z : VenueOrder). fills z b9.lots.given.0.1.0) (filling b9).0) _ _ (filled-stops b14.loop4.log _ b14.loop4.n b48.args.cfg b14.loop4.i b25.loop.control b14.loop4.v b14.loop4.orders b25.loop.msgs b25.loop.awaiting b14.loop4.deliveries b25.loop.observed b25.loop.agent b25.loop.account _ b9.lots.given.0.1.0 b5.fill-order.result b5.fill-order.ensures.0 (there b13) (filling b9).1 c.match14.keys2) c.match14.keys2)) c.match14.keys2 (waits-not b25), b5.fill-order.auto.0 ∙ b14.loop4.invariant.3 ∙ b25.loop.invariant.2 ∙ b32.phases.invariant.1, λ e. (b14.loop4.invariant.4, b25.loop.invariant.4))
+    (match-out c.before.before.before.before.before.before.before.before.before.before.before.before.before.before.before.before.before _ _ _ (passed c.before.before.before.before.before.before.before.before.before.before.before.before _ (place-stops (log_at c.loop-i-3.log c.loop-i-3.n) c.args.cfg c.in-Row.row (c.looks-count.result - c.loop-i-3.i) (c.looks-count.result - (c.loop-i-3.i + 1)) c.loop-i-3.i (omega (arith, c.loop-i-3-test.true)) (at-pass c.before.before.before.before.before.before.before.before.before.before.before.before) (swept c.args.cfg c.in-Row.index c.in-Row.row) _ (there c.before.before.before.before.before.before.before.before.before.before.before) _ _ ((sym c.lots_of-lots.ensures ∙ ap rule_fills c.in-Take.is) ∙ ap (λ (z : VenueOrder). fills z c.in-Take.taken) (filling c.before.before.before.before.before.before.before.before).0) _ _ (filled-stops c.loop-i-3.log _ c.loop-i-3.n c.args.cfg c.loop-i-3.i c.loop-outcome.control c.loop-i-3.v c.loop-i-3.orders c.loop-outcome.msgs c.loop-outcome.awaiting c.loop-i-3.deliveries c.loop-outcome.observed c.loop-outcome.agent c.loop-outcome.account _ c.in-Take.taken c.fill_order-f.result c.fill_order-f.ensures.0 (there c.before.before.before.before.before.before.before.before.before.before.before) (filling c.before.before.before.before.before.before.before.before).1 c.in_default-outcome-5.not-Ran) c.in_default-outcome-5.not-Ran)) c.in_default-outcome-5.not-Ran (waits-not c.before.before.before.before.before.before.before.before.before.before.before.before.before.before.before.before.before.before.before.before), c.fill_order-f.auto.log ∙ c.loop-i-3.invariant.3 ∙ c.loop-outcome.invariant.2 ∙ c.phases.invariant.1, λ e. (c.loop-i-3.invariant.4, c.loop-outcome.invariant.4))
 
 -- an order is filled
-loop4-again-2 : tie.Need-loop4-preserved-2 invariant-loop2 decreases-loop2 invariant-loop3 decreases-loop3 invariant-loop decreases-loop invariant-loop4 decreases-loop4 invariant-phases decreases-phases
+loop4-again-2 : tie.Need-loop-i-3-preserved invariant-loop2 decreases-loop2 invariant-loop3 decreases-loop3 invariant-loop decreases-loop invariant-loop4 decreases-loop4 invariant-phases decreases-phases
 loop4-again-2 c =
-    let b1 = c.before in let b7 = b1.before.before.before.before.before.before in let b11 = b7.before.before.before.before in let b13 = b11.before.before in let b15 = b13.before.before in let b16 = b15.before in let b17 = b16.before in let b27 = b17.before.before.before.before.before.before.before.before.before.before in let b29 = b27.before.before in let b50 = b29.before.before.before.before.before.before.before.before.before.before.before.before.before.before.before.before.before.before.before.before.before in ((λ k. place-fills (log_at b16.loop4.log b16.loop4.n) b50.args.cfg b29.job.given.0.1.1.0 (b17.looks.result - b16.loop4.i) (b17.looks.result - (b16.loop4.i + 1)) b16.loop4.i (omega (arith, b15.loop4-test.true)) (at-pass b16) k _ (there b15) _ _ ((sym b13.lots-of.ensures ∙ ap rule_fills b11.lots.given.1) ∙ ap (λ (z : VenueOrder). fills z b11.lots.given.0.1.0) (filling b11).0) _ _ (filled-ran b16.loop4.log _ b16.loop4.n b50.args.cfg b16.loop4.i b27.loop.control b16.loop4.v b16.loop4.orders b27.loop.msgs b27.loop.awaiting b16.loop4.deliveries b27.loop.observed b27.loop.agent b27.loop.account _ b11.lots.given.0.1.0 b7.fill-order.result b7.fill-order.ensures.0 (there b15) (filling b11).1 b1.enum-told22.given.1 (b7.fill-order.ensures.1 b1.enum-told22.given.1) b16.loop4.invariant.4 c.fill-delivery.result (c.fill-delivery.ensures (filling b11).1)) b1.enum-told22.given.1 ∙ b16.loop4.invariant.0 k), b16.loop4.invariant.1, omega (arith, b15.loop4-test.true), b7.fill-order.auto.0 ∙ b16.loop4.invariant.3, length-set b16.loop4.deliveries.slots _ _ ∙ b16.loop4.invariant.4)
+    ((λ k. place-fills (log_at c.loop-i-3.log c.loop-i-3.n) c.args.cfg c.in-Row.row (c.looks-count.result - c.loop-i-3.i) (c.looks-count.result - (c.loop-i-3.i + 1)) c.loop-i-3.i (omega (arith, c.loop-i-3-test.true)) (at-pass c.before.before.before.before.before.before.before.before.before.before.before.before.before.before) k _ (there c.before.before.before.before.before.before.before.before.before.before.before.before.before) _ _ ((sym c.lots_of-lots.ensures ∙ ap rule_fills c.in-Take.is) ∙ ap (λ (z : VenueOrder). fills z c.in-Take.taken) (filling c.before.before.before.before.before.before.before.before.before.before).0) _ _ (filled-ran c.loop-i-3.log _ c.loop-i-3.n c.args.cfg c.loop-i-3.i c.loop-outcome.control c.loop-i-3.v c.loop-i-3.orders c.loop-outcome.msgs c.loop-outcome.awaiting c.loop-i-3.deliveries c.loop-outcome.observed c.loop-outcome.agent c.loop-outcome.account _ c.in-Take.taken c.fill_order-f.result c.fill_order-f.ensures.0 (there c.before.before.before.before.before.before.before.before.before.before.before.before.before) (filling c.before.before.before.before.before.before.before.before.before.before).1 c.in-Ran-outcome-5.is (c.fill_order-f.ensures.1 c.in-Ran-outcome-5.is) c.loop-i-3.invariant.4 c.fill_delivery.result (c.fill_delivery.ensures (filling c.before.before.before.before.before.before.before.before.before.before).1)) c.in-Ran-outcome-5.is ∙ c.loop-i-3.invariant.0 k), c.loop-i-3.invariant.1, omega (arith, c.loop-i-3-test.true), c.fill_order-f.auto.log ∙ c.loop-i-3.invariant.3, length-set c.loop-i-3.deliveries.slots _ _ ∙ c.loop-i-3.invariant.4)
 
 -- the sweep stops
-phases-less-10 : tie.Need-phases-smaller-10 invariant-loop2 decreases-loop2 invariant-loop3 decreases-loop3 invariant-loop decreases-loop invariant-loop4 decreases-loop4 invariant-phases decreases-phases
+phases-less-10 : tie.Need-phases-smaller-in_default-outcome-6 invariant-loop2 decreases-loop2 invariant-loop3 decreases-loop3 invariant-loop decreases-loop invariant-loop4 decreases-loop4 invariant-phases decreases-phases
 phases-less-10 c =
-    let b4 = c.before.before.before.before in let b24 = b4.before.before.before.before.before.before.before.before.before.before.before.before.before.before.before.before.before.before.before.before in let b26 = b24.before.before in fuel-stops b4.sweep.result.outcome b26.phases.outcome _ _ b24.enum-told3.given.1 c.match15.keys2
+    fuel-stops c.sweep-w.result.outcome c.phases.outcome _ _ c.in-Ran-outcome.is c.in_default-outcome-6.not-Ran
 
-phases-again-10 : tie.Need-phases-preserved-10 invariant-loop2 decreases-loop2 invariant-loop3 decreases-loop3 invariant-loop decreases-loop invariant-loop4 decreases-loop4 invariant-phases decreases-phases
+phases-again-10 : tie.Need-phases-preserved-in_default-outcome-6 invariant-loop2 decreases-loop2 invariant-loop3 decreases-loop3 invariant-loop decreases-loop invariant-loop4 decreases-loop4 invariant-phases decreases-phases
 phases-again-10 c =
-    let b4 = c.before.before.before.before in let b6 = b4.before.before in let b8 = b6.before.before in let b14 = b8.before.before.before.before.before.before in let b19 = b14.before.before.before.before.before in let b21 = b19.before.before in let b26 = b21.before.before.before.before.before in let b42 = b26.before.before.before.before.before.before.before.before.before.before.before.before.before.before.before.before in (match-out b14 _ _ _ (pass-over b6 _ (sweep-stops b8.loop4.log b8.loop4.n (at-pass b8) b4.sweep.result (queue_observation b42.args.cfg b21.job.given.0.1.0 b21.job.given.0.1.1.0) (b4.sweep.ensures (at-pass b8) b8.loop4.n b8.loop4.log) c.match15.keys2)) c.match15.keys2 (waits-not b19), b8.loop4.invariant.3 ∙ b19.loop.invariant.2 ∙ b26.phases.invariant.1, λ e. (b8.loop4.invariant.4, b19.loop.invariant.4))
+    (match-out c.before.before.before.before.before.before.before.before.before.before.before.before.before _ _ _ (pass-over c.before.before.before.before.before.before _ (sweep-stops c.loop-i-3.log c.loop-i-3.n (at-pass c.before.before.before.before.before.before.before.before) c.sweep-w.result (queue_observation c.args.cfg c.in-Row.index c.in-Row.row) (c.sweep-w.ensures (at-pass c.before.before.before.before.before.before.before.before) c.loop-i-3.n c.loop-i-3.log) c.in_default-outcome-6.not-Ran)) c.in_default-outcome-6.not-Ran (waits-not c.before.before.before.before.before.before.before.before.before.before.before.before.before.before.before.before), c.loop-i-3.invariant.3 ∙ c.loop-outcome.invariant.2 ∙ c.phases.invariant.1, λ e. (c.loop-i-3.invariant.4, c.loop-outcome.invariant.4))
 
 -- the observation stops
-phases-less-11 : tie.Need-phases-smaller-11 invariant-loop2 decreases-loop2 invariant-loop3 decreases-loop3 invariant-loop decreases-loop invariant-loop4 decreases-loop4 invariant-phases decreases-phases
+phases-less-11 : tie.Need-phases-smaller-in_default-outcome-7 invariant-loop2 decreases-loop2 invariant-loop3 decreases-loop3 invariant-loop decreases-loop invariant-loop4 decreases-loop4 invariant-phases decreases-phases
 phases-less-11 c =
-    let b3 = c.before.before.before in let b23 = b3.before.before.before.before.before.before.before.before.before.before.before.before.before.before.before.before.before.before.before.before in let b25 = b23.before.before in fuel-stops b3.observed-at.result.outcome b25.phases.outcome _ _ b23.enum-told3.given.1 c.match16.keys2
+    fuel-stops c.observed_at-q.result.outcome c.phases.outcome _ _ c.in-Ran-outcome.is c.in_default-outcome-7.not-Ran
 
-phases-again-11 : tie.Need-phases-preserved-11 invariant-loop2 decreases-loop2 invariant-loop3 decreases-loop3 invariant-loop decreases-loop invariant-loop4 decreases-loop4 invariant-phases decreases-phases
+phases-again-11 : tie.Need-phases-preserved-in_default-outcome-7 invariant-loop2 decreases-loop2 invariant-loop3 decreases-loop3 invariant-loop decreases-loop invariant-loop4 decreases-loop4 invariant-phases decreases-phases
 phases-again-11 c =
-    let b3 = c.before.before.before in let b4 = b3.before in let b7 = b4.before.before.before in let b13 = b7.before.before.before.before.before.before in let b18 = b13.before.before.before.before.before in let b20 = b18.before.before in let b25 = b20.before.before.before.before.before in let b41 = b25.before.before.before.before.before.before.before.before.before.before.before.before.before.before.before.before in (match-out b13 _ _ _ (sweep-over b4 _ (queued-stops b7.loop4.log b7.loop4.n b20.job.given.0.1.0 b41.args.cfg b20.job.given.0.1.1.0 b18.loop.control b7.loop4.v b4.if1.orders b4.if1.msgs b4.if1.awaiting b7.loop4.deliveries b18.loop.observed b18.loop.agent b18.loop.account b3.observed-at.result b3.observed-at.ensures.0 c.match16.keys2)) c.match16.keys2 (b3.observed-at.ensures.2 (waits-not b18)), b7.loop4.invariant.3 ∙ b18.loop.invariant.2 ∙ b25.phases.invariant.1, λ e. (b7.loop4.invariant.4, b18.loop.invariant.4))
+    (match-out c.before.before.before.before.before.before.before.before.before.before.before.before _ _ _ (sweep-over c.before.before.before.before _ (queued-stops c.loop-i-3.log c.loop-i-3.n c.in-Row.index c.args.cfg c.in-Row.row c.loop-outcome.control c.loop-i-3.v c.if-any_terminal.orders c.if-any_terminal.msgs c.if-any_terminal.awaiting c.loop-i-3.deliveries c.loop-outcome.observed c.loop-outcome.agent c.loop-outcome.account c.observed_at-q.result c.observed_at-q.ensures.0 c.in_default-outcome-7.not-Ran)) c.in_default-outcome-7.not-Ran (c.observed_at-q.ensures.2 (waits-not c.before.before.before.before.before.before.before.before.before.before.before.before.before.before.before)), c.loop-i-3.invariant.3 ∙ c.loop-outcome.invariant.2 ∙ c.phases.invariant.1, λ e. (c.loop-i-3.invariant.4, c.loop-outcome.invariant.4))
 
 -- the row is matched, and its observation waits
-phases-less-12 : tie.Need-phases-smaller-12 invariant-loop2 decreases-loop2 invariant-loop3 decreases-loop3 invariant-loop decreases-loop invariant-loop4 decreases-loop4 invariant-phases decreases-phases
+phases-less-12 : tie.Need-phases-smaller-in-Match invariant-loop2 decreases-loop2 invariant-loop3 decreases-loop3 invariant-loop decreases-loop invariant-loop4 decreases-loop4 invariant-phases decreases-phases
 phases-less-12 c =
-    let b4 = c.before.before.before.before in let b14 = b4.before.before.before.before.before.before.before.before.before.before in let b24 = b14.before.before.before.before.before.before.before.before.before.before in let b26 = b24.before.before in let b42 = b26.before.before.before.before.before.before.before.before.before.before.before.before.before.before.before.before in fuel_falls b4.observed-at.result.outcome b26.phases.outcome _ _ b24.enum-told3.given.1 (λ _. let h = phases_fall b42.args.cfg b42.args.rows.now (at-phases b26) _ (turn_match b14) (log_at b26.phases.log b26.phases.n) (queues c) c.enum-told24.given.1 in omega (arith, h))
+    fuel_falls c.observed_at-q.result.outcome c.phases.outcome _ _ c.in-Ran-outcome.is (λ _. let h = phases_fall c.args.cfg c.args.rows.now (at-phases c.before.before.before.before.before.before.before.before.before.before.before.before.before.before.before.before.before.before.before) _ (turn_match c.before.before.before.before.before.before.before.before.before.before.before.before) (log_at c.phases.log c.phases.n) (queues c) c.in-Ran-outcome-7.is in omega (arith, h))
 
-phases-again-12 : tie.Need-phases-preserved-12 invariant-loop2 decreases-loop2 invariant-loop3 decreases-loop3 invariant-loop decreases-loop invariant-loop4 decreases-loop4 invariant-phases decreases-phases
+phases-again-12 : tie.Need-phases-preserved-in-Match invariant-loop2 decreases-loop2 invariant-loop3 decreases-loop3 invariant-loop decreases-loop invariant-loop4 decreases-loop4 invariant-phases decreases-phases
 phases-again-12 c =
-    let b4 = c.before.before.before.before in let b5 = b4.before in let b8 = b5.before.before.before in let b14 = b8.before.before.before.before.before.before in let b19 = b14.before.before.before.before.before in let b21 = b19.before.before in let b24 = b21.before.before.before in let b26 = b24.before.before in let b42 = b26.before.before.before.before.before.before.before.before.before.before.before.before.before.before.before.before in (turns-on b24 b4.observed-at.result.outcome c.enum-told24.given.1 b26.phases.left b26.phases.before (log_at b8.loop4.log b8.loop4.n) (state_of b4.observed-at.result.control b4.observed-at.result.venue b5.if1.orders b5.if1.msgs b5.if1.awaiting b8.loop4.deliveries (record { slots = set b19.loop.observed.slots b19.loop.observed.count (record { ready_ns = b4.observed-at.result.venue.clock.last_observed_ns; row = b21.job.given.0.1.0 }); count = b19.loop.observed.count + 1 }) b19.loop.agent b19.loop.account) (ap (after_call b42.args.cfg b42.args.rows.now (length b42.args.log.now / 12) b26.phases.left b26.phases.before) (phases-on b42.args.cfg b42.args.rows.now (at-phases b26) _ (turn_match b14) (log_at b26.phases.log b26.phases.n) (queues c) c.enum-told24.given.1)), b8.loop4.invariant.3 ∙ b19.loop.invariant.2 ∙ b26.phases.invariant.1, λ e. (b8.loop4.invariant.4, length-set b19.loop.observed.slots _ _ ∙ b19.loop.invariant.4))
+    (turns-on c.before.before.before.before.before.before.before.before.before.before.before.before.before.before.before.before.before.before c.observed_at-q.result.outcome c.in-Ran-outcome-7.is c.phases.left c.phases.before (log_at c.loop-i-3.log c.loop-i-3.n) (state_of c.observed_at-q.result.control c.observed_at-q.result.venue c.if-any_terminal.orders c.if-any_terminal.msgs c.if-any_terminal.awaiting c.loop-i-3.deliveries (record { slots = set c.loop-outcome.observed.slots c.loop-outcome.observed.count (record { ready_ns = c.observed_at-q.result.venue.clock.last_observed_ns; row = c.in-Row.index }); count = c.loop-outcome.observed.count + 1 }) c.loop-outcome.agent c.loop-outcome.account) (ap (after_call c.args.cfg c.args.rows.now (length c.args.log.now / 12) c.phases.left c.phases.before) (phases-on c.args.cfg c.args.rows.now (at-phases c.before.before.before.before.before.before.before.before.before.before.before.before.before.before.before.before.before.before.before) _ (turn_match c.before.before.before.before.before.before.before.before.before.before.before.before) (log_at c.phases.log c.phases.n) (queues c) c.in-Ran-outcome-7.is)), c.loop-i-3.invariant.3 ∙ c.loop-outcome.invariant.2 ∙ c.phases.invariant.1, λ e. (c.loop-i-3.invariant.4, length-set c.loop-outcome.observed.slots _ _ ∙ c.loop-outcome.invariant.4))
 
 -- the data ends
-phases-less-13 : tie.Need-phases-smaller-13 invariant-loop2 decreases-loop2 invariant-loop3 decreases-loop3 invariant-loop decreases-loop invariant-loop4 decreases-loop4 invariant-phases decreases-phases
+phases-less-13 : tie.Need-phases-smaller-in_default-onward invariant-loop2 decreases-loop2 invariant-loop3 decreases-loop3 invariant-loop decreases-loop invariant-loop4 decreases-loop4 invariant-phases decreases-phases
 phases-less-13 c =
-    let b9 = c.before.before.before.before.before.before.before.before.before in let b16 = b9.before.before.before.before.before.before.before in let b18 = b16.before.before in fuel-stops b9.end-of-data.result.outcome b18.phases.outcome _ _ b16.enum-told3.given.1 (data-ends b9)
+    fuel-stops c.end_of_data-e.result.outcome c.phases.outcome _ _ c.in-Ran-outcome.is (data-ends c.before.before.before.before.before.before.before.before.before)
 
-phases-again-13 : tie.Need-phases-preserved-13 invariant-loop2 decreases-loop2 invariant-loop3 decreases-loop3 invariant-loop decreases-loop invariant-loop4 decreases-loop4 invariant-phases decreases-phases
+phases-again-13 : tie.Need-phases-preserved-in_default-onward invariant-loop2 decreases-loop2 invariant-loop3 decreases-loop3 invariant-loop decreases-loop invariant-loop4 decreases-loop4 invariant-phases decreases-phases
 phases-again-13 c =
-    let b9 = c.before.before.before.before.before.before.before.before.before in let b11 = b9.before.before in let b13 = b11.before.before in let b14 = b13.before in let b16 = b14.before.before in let b18 = b16.before.before in let b34 = b18.before.before.before.before.before.before.before.before.before.before.before.before.before.before.before.before in (ends_at b16 _ _ _ (phases-left b34.args.cfg b34.args.rows.now (at-phases b18) _ (joined-turn b14).1 (log_at b18.phases.log b18.phases.n) (onward_end (log_at b14.match3.log b14.match3.n) b34.args.cfg b34.args.rows.now (state_of b14.match3.control b14.match3.v b14.match3.orders b14.match3.msgs b14.match3.awaiting b14.match3.deliveries b14.match3.observed b14.match3.agent b14.match3.account) b13.next_row.result (b13.next_row.ensures (state_of b14.match3.control b14.match3.v b14.match3.orders b14.match3.msgs b14.match3.awaiting b14.match3.deliveries b14.match3.observed b14.match3.agent b14.match3.account)) b11.enum-told25.given.1 (b9.end-of-data.ensures.0 (state_of b14.match3.control b14.match3.v b14.match3.orders b14.match3.msgs b14.match3.awaiting b14.match3.deliveries b14.match3.observed b14.match3.agent b14.match3.account)) ∙ (joined-turn b14).2) (data-ends b9)) (data-ends b9) (b9.end-of-data.ensures.1 (joined-turn b14).6), b9.end-of-data.auto.0 ∙ (joined-turn b14).3 ∙ b18.phases.invariant.1, not_ran b9.end-of-data.result.outcome (data-ends b9))
+    (ends_at c.before.before.before.before.before.before.before.before.before.before.before.before.before.before.before _ _ _ (phases-left c.args.cfg c.args.rows.now (at-phases c.before.before.before.before.before.before.before.before.before.before.before.before.before.before.before.before) _ (joined-turn c.before.before.before.before.before.before.before.before.before.before.before.before.before).1 (log_at c.phases.log c.phases.n) (onward_end (log_at c.match-job.log c.match-job.n) c.args.cfg c.args.rows.now (state_of c.match-job.control c.match-job.v c.match-job.orders c.match-job.msgs c.match-job.awaiting c.match-job.deliveries c.match-job.observed c.match-job.agent c.match-job.account) c.next_row-onward.result (c.next_row-onward.ensures (state_of c.match-job.control c.match-job.v c.match-job.orders c.match-job.msgs c.match-job.awaiting c.match-job.deliveries c.match-job.observed c.match-job.agent c.match-job.account)) c.in_default-onward.is (c.end_of_data-e.ensures.0 (state_of c.match-job.control c.match-job.v c.match-job.orders c.match-job.msgs c.match-job.awaiting c.match-job.deliveries c.match-job.observed c.match-job.agent c.match-job.account)) ∙ (joined-turn c.before.before.before.before.before.before.before.before.before.before.before.before.before).2) (data-ends c.before.before.before.before.before.before.before.before.before)) (data-ends c.before.before.before.before.before.before.before.before.before) (c.end_of_data-e.ensures.1 (joined-turn c.before.before.before.before.before.before.before.before.before.before.before.before.before).6), c.end_of_data-e.auto.log ∙ (joined-turn c.before.before.before.before.before.before.before.before.before.before.before.before.before).3 ∙ c.phases.invariant.1, not_ran c.end_of_data-e.result.outcome (data-ends c.before.before.before.before.before.before.before.before.before))
 
 -- the next row
-phases-less-14 : tie.Need-phases-smaller-14 invariant-loop2 decreases-loop2 invariant-loop3 decreases-loop3 invariant-loop decreases-loop invariant-loop4 decreases-loop4 invariant-phases decreases-phases
+phases-less-14 : tie.Need-phases-smaller invariant-loop2 decreases-loop2 invariant-loop3 decreases-loop3 invariant-loop decreases-loop invariant-loop4 decreases-loop4 invariant-phases decreases-phases
 phases-less-14 c =
-    let b1 = c.before in let b3 = b1.before.before in let b4 = b3.before in let b6 = b4.before.before in let b8 = b6.before.before in let b24 = b8.before.before.before.before.before.before.before.before.before.before.before.before.before.before.before.before in fuel_falls b4.match3.outcome b8.phases.outcome _ _ b6.enum-told3.given.1 (λ _. let h = phases_fall b24.args.cfg b24.args.rows.now (at-phases b8) _ (joined-turn b4).1 (log_at b8.phases.log b8.phases.n) (onward-to (log_at b4.match3.log b4.match3.n) b24.args.cfg b24.args.rows.now (state_of b4.match3.control b4.match3.v b4.match3.orders b4.match3.msgs b4.match3.awaiting b4.match3.deliveries b4.match3.observed b4.match3.agent b4.match3.account) b3.next_row.result (b3.next_row.ensures (state_of b4.match3.control b4.match3.v b4.match3.orders b4.match3.msgs b4.match3.awaiting b4.match3.deliveries b4.match3.observed b4.match3.agent b4.match3.account)) _ b1.onward.given.1 ∙ (joined-turn b4).2) refl in omega (arith, h))
+    fuel_falls c.match-job.outcome c.phases.outcome _ _ c.in-Ran-outcome.is (λ _. let h = phases_fall c.args.cfg c.args.rows.now (at-phases c.before.before.before.before.before) _ (joined-turn c.before.before).1 (log_at c.phases.log c.phases.n) (onward-to (log_at c.match-job.log c.match-job.n) c.args.cfg c.args.rows.now (state_of c.match-job.control c.match-job.v c.match-job.orders c.match-job.msgs c.match-job.awaiting c.match-job.deliveries c.match-job.observed c.match-job.agent c.match-job.account) c.next_row-onward.result (c.next_row-onward.ensures (state_of c.match-job.control c.match-job.v c.match-job.orders c.match-job.msgs c.match-job.awaiting c.match-job.deliveries c.match-job.observed c.match-job.agent c.match-job.account)) _ c.in-To.is ∙ (joined-turn c.before.before).2) refl in omega (arith, h))
 
-phases-again-14 : tie.Need-phases-preserved-14 invariant-loop2 decreases-loop2 invariant-loop3 decreases-loop3 invariant-loop decreases-loop invariant-loop4 decreases-loop4 invariant-phases decreases-phases
+phases-again-14 : tie.Need-phases-preserved invariant-loop2 decreases-loop2 invariant-loop3 decreases-loop3 invariant-loop decreases-loop invariant-loop4 decreases-loop4 invariant-phases decreases-phases
 phases-again-14 c =
-    let b1 = c.before in let b3 = b1.before.before in let b4 = b3.before in let b6 = b4.before.before in let b8 = b6.before.before in let b24 = b8.before.before.before.before.before.before.before.before.before.before.before.before.before.before.before.before in (turns-on b6 b4.match3.outcome (joined-turn b4).7 b8.phases.left b8.phases.before _ _ (ap (after_call b24.args.cfg b24.args.rows.now (length b24.args.log.now / 12) b8.phases.left b8.phases.before) (phases-on b24.args.cfg b24.args.rows.now (at-phases b8) _ (joined-turn b4).1 (log_at b8.phases.log b8.phases.n) (onward-to (log_at b4.match3.log b4.match3.n) b24.args.cfg b24.args.rows.now (state_of b4.match3.control b4.match3.v b4.match3.orders b4.match3.msgs b4.match3.awaiting b4.match3.deliveries b4.match3.observed b4.match3.agent b4.match3.account) b3.next_row.result (b3.next_row.ensures (state_of b4.match3.control b4.match3.v b4.match3.orders b4.match3.msgs b4.match3.awaiting b4.match3.deliveries b4.match3.observed b4.match3.agent b4.match3.account)) _ b1.onward.given.1 ∙ (joined-turn b4).2) refl)), (joined-turn b4).3 ∙ b8.phases.invariant.1, λ e. ((joined-turn b4).4, (joined-turn b4).5))
+    (turns-on c.before.before.before.before c.match-job.outcome (joined-turn c.before.before).7 c.phases.left c.phases.before _ _ (ap (after_call c.args.cfg c.args.rows.now (length c.args.log.now / 12) c.phases.left c.phases.before) (phases-on c.args.cfg c.args.rows.now (at-phases c.before.before.before.before.before) _ (joined-turn c.before.before).1 (log_at c.phases.log c.phases.n) (onward-to (log_at c.match-job.log c.match-job.n) c.args.cfg c.args.rows.now (state_of c.match-job.control c.match-job.v c.match-job.orders c.match-job.msgs c.match-job.awaiting c.match-job.deliveries c.match-job.observed c.match-job.agent c.match-job.account) c.next_row-onward.result (c.next_row-onward.ensures (state_of c.match-job.control c.match-job.v c.match-job.orders c.match-job.msgs c.match-job.awaiting c.match-job.deliveries c.match-job.observed c.match-job.agent c.match-job.account)) _ c.in-To.is ∙ (joined-turn c.before.before).2) refl)), (joined-turn c.before.before).3 ∙ c.phases.invariant.1, λ e. ((joined-turn c.before.before).4, (joined-turn c.before.before).5))
 
-returns-2 : tie.Need-returns-2 invariant-loop2 decreases-loop2 invariant-loop3 decreases-loop3 invariant-loop decreases-loop invariant-loop4 decreases-loop4 invariant-phases decreases-phases
+returns-2 : tie.Need-returns invariant-loop2 decreases-loop2 invariant-loop3 decreases-loop3 invariant-loop decreases-loop invariant-loop4 decreases-loop4 invariant-phases decreases-phases
 returns-2 c =
-    let b1 = c.before in let b4 = b1.before.before.before in let b6 = b4.before.before in let b7 = b6.before in let b15 = b7.before.before.before.before.before.before.before.before in let b17 = b15.before.before in let b19 = b17.before.before in let b20 = b19.before in let b23 = b20.before.before.before in rw (b17.enum_told.given.1, b1.state-of.ensures, c.saturating-sub.ensures)
-    (ap ran_as (b4.close.ensures (at-phases b7) b7.phases.before ∙ sym (leaves_stop b7.phases.outcome b6.match2.keys2 b23.args.cfg b23.args.rows.now (length b23.args.log.now / 12) b7.phases.left b7.phases.before (log_at b7.phases.log b7.phases.n) (at-phases b7)) ∙ b7.phases.invariant.0) ∙ rw b15.venue-of.ensures (run_is b23.args.cfg b23.args.rows.now b23.args.log.now b23.args.passes b23.args.state (tested-tells _ _ (sym b19.tested.ensures ∙ b17.enum_told.given.1)).0 (sym (b20.counts-fit.ensures b23.args.state refl) ∙ (tested-tells _ _ (sym b19.tested.ensures ∙ b17.enum_told.given.1)).1) (omega (arith, b23.well-formed.1.0.1)) (omega (arith, b23.well-formed.1.1.1.0.1))))
+    rw (c.in-Ran.is, c.state_of.ensures, c.saturating_sub.ensures)
+    (ap ran_as (c.close-end.ensures (at-phases c.before.before.before.before.before.before.before) c.phases.before ∙ sym (leaves_stop c.phases.outcome c.in_default-outcome.not-Ran c.args.cfg c.args.rows.now (length c.args.log.now / 12) c.phases.left c.phases.before (log_at c.phases.log c.phases.n) (at-phases c.before.before.before.before.before.before.before)) ∙ c.phases.invariant.0) ∙ rw c.venue_of-v.ensures (run_is c.args.cfg c.args.rows.now c.args.log.now c.args.passes c.args.state (tested-tells _ _ (sym c.tested-answer.ensures ∙ c.in-Ran.is)).0 (sym (c.counts_fit.ensures c.args.state refl) ∙ (tested-tells _ _ (sym c.tested-answer.ensures ∙ c.in-Ran.is)).1) (omega (arith, c.well_formed.1.0.1)) (omega (arith, c.well_formed.1.1.1.0.1))))
 
 pub run_spec : {M : Type 1} → statement M
 run_spec =
@@ -457,7 +462,7 @@ run_spec =
     phases-again-3
     (λ c. search rules)
     (λ c. search rules)
-    (λ c. let b1 = c.before in let b4 = b1.before.before.before in let b6 = b4.before.before in let b22 = b6.before.before.before.before.before.before.before.before.before.before.before.before.before.before.before.before in ((λ k. sym (steps_ran b6.phases.outcome b4.enum-told3.given.1 (log_at b6.phases.log b6.phases.n) (at-phases b6) (λ u. and_then (run_events b22.args.cfg b1.job.given.0.1.1.0.ts_ns u) k))), refl, refl, (b6.phases.invariant.2 b4.enum-told3.given.1).0, (b6.phases.invariant.2 b4.enum-told3.given.1).1))
+    (λ c. ((λ k. sym (steps_ran c.phases.outcome c.in-Ran-outcome.is (log_at c.phases.log c.phases.n) (at-phases c.before.before.before) (λ u. and_then (run_events c.args.cfg c.in-Row.row.ts_ns u) k))), refl, refl, (c.phases.invariant.2 c.in-Ran-outcome.is).0, (c.phases.invariant.2 c.in-Ran-outcome.is).1))
     (λ c. search rules)
     (λ c κs. search rules)
     (λ c. search rules)
@@ -467,47 +472,47 @@ run_spec =
     (λ c κs. search rules)
     (λ c κs. search rules)
     (λ c. search rules)
-    (λ c. let b1 = c.before in omega (arith, (slot-free b1).0))
-    (λ c. let b1 = c.before in omega (arith, (slot-free b1).0))
-    (λ c. let b1 = c.before in omega (arith, (slot-free b1).0))
-    (λ c. let b1 = c.before in let b3 = b1.before.before in (acts b3 _ (slot-free b1).1).0)
-    (λ c. let b1 = c.before in let b3 = b1.before.before in let b11 = b3.before.before.before.before.before.before.before.before in let b23 = b11.before.before.before.before.before.before.before.before.before.before.before.before in ((acts b3 _ (slot-free b1).1).1, b23.loop.invariant.1, b11.act.auto.0 ∙ b23.loop.invariant.2, length-set b23.loop.deliveries.slots _ _ ∙ b23.loop.invariant.3, b23.loop.invariant.4))
+    (λ c. omega (arith, (slot-free c).0))
+    (λ c. omega (arith, (slot-free c).0))
+    (λ c. omega (arith, (slot-free c).0))
+    (λ c. (acts c.before _ (slot-free c).1).0)
+    (λ c. ((acts c.before _ (slot-free c).1).1, c.loop-outcome.invariant.1, c.act-a.auto.log ∙ c.loop-outcome.invariant.2, length-set c.loop-outcome.deliveries.slots _ _ ∙ c.loop-outcome.invariant.3, c.loop-outcome.invariant.4))
     (λ c. search rules)
-    (λ c. let b2 = c.before.before in let b10 = b2.before.before.before.before.before.before.before.before in let b22 = b10.before.before.before.before.before.before.before.before.before.before.before.before in (acts b2 b22.loop.deliveries (slot_none b10.act.result.told.sent b22.loop.deliveries b2.slot_of.result b2.slot_of.ensures c.enum-told11.given.1)).0)
-    (λ c. let b2 = c.before.before in let b10 = b2.before.before.before.before.before.before.before.before in let b22 = b10.before.before.before.before.before.before.before.before.before.before.before.before in ((acts b2 b22.loop.deliveries (slot_none b10.act.result.told.sent b22.loop.deliveries b2.slot_of.result b2.slot_of.ensures c.enum-told11.given.1)).1, b22.loop.invariant.1, b10.act.auto.0 ∙ b22.loop.invariant.2, b22.loop.invariant.3, b22.loop.invariant.4))
+    (λ c. (acts c.before c.loop-outcome.deliveries (slot_none c.act-a.result.told.sent c.loop-outcome.deliveries c.slot_of-slot.result c.slot_of-slot.ensures c.in_default-slot.is)).0)
+    (λ c. ((acts c.before c.loop-outcome.deliveries (slot_none c.act-a.result.told.sent c.loop-outcome.deliveries c.slot_of-slot.result c.slot_of-slot.ensures c.in_default-slot.is)).1, c.loop-outcome.invariant.1, c.act-a.auto.log ∙ c.loop-outcome.invariant.2, c.loop-outcome.invariant.3, c.loop-outcome.invariant.4))
     (λ c. search rules)
     (λ c. search rules)
-    (λ c. let b1 = c.before in omega (arith, (due-del b1).0))
-    (λ c. let b1 = c.before in let b11 = b1.before.before.before.before.before.before.before.before.before.before in (remove_begin (due-del b1).0 (omega (arith, (due-del b1).1, b11.loop.invariant.3)), b11.loop.invariant.3))
-    (λ c. let b3 = c.before.before.before in omega (arith, (due-del b3).1, c.loop2-test.true))
-    (λ c. let b3 = c.before.before.before in omega (arith, (due-del b3).1, c.loop2-test.true))
-    (λ c. let b3 = c.before.before.before in omega (arith, (due-del b3).1, c.loop2-test.true))
-    (λ c. let b1 = c.before in let b4 = b1.before.before.before in omega (arith, (due-del b4).1, b1.loop2-test.true))
-    (λ c. let b1 = c.before in let b4 = b1.before.before.before in omega (arith, (due-del b4).1, b1.loop2-test.true))
-    (λ c. let b1 = c.before in let b4 = b1.before.before.before in omega (arith, (due-del b4).1, b1.loop2-test.true))
-    (λ c. let b1 = c.before in omega (arith, b1.loop2-test.true))
-    (λ c. let b1 = c.before in let b2 = b1.before in (remove_turn (omega (arith, b1.loop2-test.true)) b2.loop2.invariant.0, length-set b2.loop2.deliveries.slots _ _ ∙ b2.loop2.invariant.1))
+    (λ c. omega (arith, (due-del c.before).0))
+    (λ c. (remove_begin (due-del c.before).0 (omega (arith, (due-del c.before).1, c.loop-outcome.invariant.3)), c.loop-outcome.invariant.3))
+    (λ c. omega (arith, (due-del c.before.before.before).1, c.loop-i-test.true))
+    (λ c. omega (arith, (due-del c.before.before.before).1, c.loop-i-test.true))
+    (λ c. omega (arith, (due-del c.before.before.before).1, c.loop-i-test.true))
+    (λ c. omega (arith, (due-del c.before.before.before.before).1, c.loop-i-test.true))
+    (λ c. omega (arith, (due-del c.before.before.before.before).1, c.loop-i-test.true))
+    (λ c. omega (arith, (due-del c.before.before.before.before).1, c.loop-i-test.true))
+    (λ c. omega (arith, c.loop-i-test.true))
+    (λ c. (remove_turn (omega (arith, c.loop-i-test.true)) c.loop-i.invariant.0, length-set c.loop-i.deliveries.slots _ _ ∙ c.loop-i.invariant.1))
     (λ c κs. search rules)
-    (λ c. let b4 = c.before.before.before.before in omega (arith, (due-del b4).0, (due-del b4).1))
-    (λ c. let b4 = c.before.before.before.before in omega (arith, (due-del b4).0, (due-del b4).1))
+    (λ c. omega (arith, (due-del c.before.before.before.before).0, (due-del c.before.before.before.before).1))
+    (λ c. omega (arith, (due-del c.before.before.before.before).0, (due-del c.before.before.before.before).1))
     (λ c κs. search rules)
     loop-less-3
     loop-again-3
     (λ c. search rules)
     (λ c. search rules)
-    (λ c. let b1 = c.before in omega (arith, (due-obs b1).0))
-    (λ c. let b1 = c.before in let b11 = b1.before.before.before.before.before.before.before.before.before.before in (remove_begin (due-obs b1).0 (omega (arith, (due-obs b1).1, b11.loop.invariant.4)), b11.loop.invariant.4))
-    (λ c. let b3 = c.before.before.before in omega (arith, (due-obs b3).1, c.loop3-test.true))
-    (λ c. let b3 = c.before.before.before in omega (arith, (due-obs b3).1, c.loop3-test.true))
-    (λ c. let b3 = c.before.before.before in omega (arith, (due-obs b3).1, c.loop3-test.true))
-    (λ c. let b1 = c.before in let b4 = b1.before.before.before in omega (arith, (due-obs b4).1, b1.loop3-test.true))
-    (λ c. let b1 = c.before in let b4 = b1.before.before.before in omega (arith, (due-obs b4).1, b1.loop3-test.true))
-    (λ c. let b1 = c.before in let b4 = b1.before.before.before in omega (arith, (due-obs b4).1, b1.loop3-test.true))
-    (λ c. let b1 = c.before in omega (arith, b1.loop3-test.true))
-    (λ c. let b1 = c.before in let b2 = b1.before in (remove_turn (omega (arith, b1.loop3-test.true)) b2.loop3.invariant.0, length-set b2.loop3.observed.slots _ _ ∙ b2.loop3.invariant.1))
+    (λ c. omega (arith, (due-obs c.before).0))
+    (λ c. (remove_begin (due-obs c.before).0 (omega (arith, (due-obs c.before).1, c.loop-outcome.invariant.4)), c.loop-outcome.invariant.4))
+    (λ c. omega (arith, (due-obs c.before.before.before).1, c.loop-i-2-test.true))
+    (λ c. omega (arith, (due-obs c.before.before.before).1, c.loop-i-2-test.true))
+    (λ c. omega (arith, (due-obs c.before.before.before).1, c.loop-i-2-test.true))
+    (λ c. omega (arith, (due-obs c.before.before.before.before).1, c.loop-i-2-test.true))
+    (λ c. omega (arith, (due-obs c.before.before.before.before).1, c.loop-i-2-test.true))
+    (λ c. omega (arith, (due-obs c.before.before.before.before).1, c.loop-i-2-test.true))
+    (λ c. omega (arith, c.loop-i-2-test.true))
+    (λ c. (remove_turn (omega (arith, c.loop-i-2-test.true)) c.loop-i-2.invariant.0, length-set c.loop-i-2.observed.slots _ _ ∙ c.loop-i-2.invariant.1))
     (λ c κs. search rules)
-    (λ c. let b4 = c.before.before.before.before in omega (arith, (due-obs b4).0, (due-obs b4).1))
-    (λ c. let b4 = c.before.before.before.before in omega (arith, (due-obs b4).0, (due-obs b4).1))
+    (λ c. omega (arith, (due-obs c.before.before.before.before).0, (due-obs c.before.before.before.before).1))
+    (λ c. omega (arith, (due-obs c.before.before.before.before).0, (due-obs c.before.before.before.before).1))
     (λ c κs. search rules)
     phases-less-4
     phases-again-4
@@ -527,30 +532,30 @@ run_spec =
     phases-less-7
     phases-again-7
     (λ c κs. search rules)
-    (λ c. let b10 = c.before.before.before.before.before.before.before.before.before.before in ((λ k. let z : c.looks.result - 0 ≡ c.looks.result = omega arith in rw z), refl, omega arith, refl, b10.loop.invariant.3))
-    (λ c. let b2 = c.before.before in omega (arith, looks-eight b2, c.loop4-test.true))
-    (λ c. let b2 = c.before.before in omega (arith, looks-eight b2, c.loop4-test.true))
+    (λ c. ((λ k. let z : c.looks-count.result - 0 ≡ c.looks-count.result = omega arith in rw z), refl, omega arith, refl, c.loop-outcome.invariant.3))
+    (λ c. omega (arith, looks-eight c.before.before, c.loop-i-3-test.true))
+    (λ c. omega (arith, looks-eight c.before.before, c.loop-i-3-test.true))
     (λ c κs. search rules)
     (λ c. search rules)
-    (λ c. let b4 = c.before.before.before.before in let b6 = b4.before.before in omega (arith, looks-eight b6, b4.loop4-test.true))
-    (λ c. let b4 = c.before.before.before.before in omega (arith, b4.loop4-test.true))
+    (λ c. omega (arith, looks-eight c.before.before.before.before.before, c.loop-i-3-test.true))
+    (λ c. omega (arith, c.loop-i-3-test.true))
     loop4-again
     (λ c. search rules)
     phases-less-8
     phases-again-8
     (λ c. search rules)
     (λ c κs. search rules)
-    (λ c. let b12 = c.before.before.before.before.before.before.before.before.before.before.before.before in let b14 = b12.before.before in omega (arith, looks-eight b14, b12.loop4-test.true))
-    (λ c. let b12 = c.before.before.before.before.before.before.before.before.before.before.before.before in let b14 = b12.before.before in omega (arith, looks-eight b14, b12.loop4-test.true))
+    (λ c. omega (arith, looks-eight c.before.before.before.before.before.before.before.before.before.before.before.before, c.loop-i-3-test.true))
+    (λ c. omega (arith, looks-eight c.before.before.before.before.before.before.before.before.before.before.before.before, c.loop-i-3-test.true))
     (λ c. search rules)
     phases-less-9
     phases-again-9
     (λ c κs. search rules)
-    (λ c. let b1 = c.before in let b7 = b1.before.before.before.before.before.before in omega (arith, b7.fill-order.ensures.1 b1.enum-told22.given.1))
-    (λ c. let b1 = c.before in let b7 = b1.before.before.before.before.before.before in omega (arith, b7.fill-order.ensures.1 b1.enum-told22.given.1))
-    (λ c. let b1 = c.before in let b7 = b1.before.before.before.before.before.before in omega (arith, b7.fill-order.ensures.1 b1.enum-told22.given.1))
-    (λ c. let b15 = c.before.before.before.before.before.before.before.before.before.before.before.before.before.before.before in let b17 = b15.before.before in omega (arith, looks-eight b17, b15.loop4-test.true))
-    (λ c. let b15 = c.before.before.before.before.before.before.before.before.before.before.before.before.before.before.before in omega (arith, b15.loop4-test.true))
+    (λ c. omega (arith, c.fill_order-f.ensures.1 c.in-Ran-outcome-5.is))
+    (λ c. omega (arith, c.fill_order-f.ensures.1 c.in-Ran-outcome-5.is))
+    (λ c. omega (arith, c.fill_order-f.ensures.1 c.in-Ran-outcome-5.is))
+    (λ c. omega (arith, looks-eight c.before.before.before.before.before.before.before.before.before.before.before.before.before.before.before, c.loop-i-3-test.true))
+    (λ c. omega (arith, c.loop-i-3-test.true))
     loop4-again-2
     (λ c κs. search rules)
     (λ c κs. search rules)
@@ -561,9 +566,9 @@ run_spec =
     (λ c. search rules)
     phases-less-11
     phases-again-11
-    (λ c. let b4 = c.before.before.before.before in omega (arith, b4.observed-at.ensures.1 c.enum-told24.given.1))
-    (λ c. let b4 = c.before.before.before.before in omega (arith, b4.observed-at.ensures.1 c.enum-told24.given.1))
-    (λ c. let b4 = c.before.before.before.before in omega (arith, b4.observed-at.ensures.1 c.enum-told24.given.1))
+    (λ c. omega (arith, c.observed_at-q.ensures.1 c.in-Ran-outcome-7.is))
+    (λ c. omega (arith, c.observed_at-q.ensures.1 c.in-Ran-outcome-7.is))
+    (λ c. omega (arith, c.observed_at-q.ensures.1 c.in-Ran-outcome-7.is))
     phases-less-12
     phases-again-12
     (λ c κs. search rules)
@@ -577,5 +582,5 @@ run_spec =
     (λ c κs. search rules)
     (λ c κs. search rules)
     (λ c κs. search rules)
-    (λ c. let b4 = c.before.before.before.before in let b7 = b4.before.before.before in b4.close.auto.0 ∙ b7.phases.invariant.1)
+    (λ c. c.close-end.auto.log ∙ c.phases.invariant.1)
     returns-2)

@@ -1,0 +1,20 @@
+-- `day::turns` meets its contract, by the laws of `TurnExits`. Assumes nothing.
+use Rattle.day.proofs.TurnExits.{ends, goes_on_lem, prints}
+use Rattle.day.proofs.turns.Goals as goal
+
+pub returns-then-is_terminal : goal.returns-then-is_terminal
+returns-then-is_terminal c = let o = ends c.args.cfg c.args.rows.now c.args.state c.args.filled _ _ c.run-a.result _ c.run-a.ensures _ _ c.put_call-length.ensures _ c.add_filled-sum.ensures
+    c.is_terminal.result c.is_terminal.ensures c.if-is_terminal.true in record {
+      whole_outcome = o;
+      prints_turns = prints c.args.cfg c.args.rows.now c.args.state c.args.filled _ _ c.run-a.result _ c.run-a.ensures _ _ c.put_call-length.ensures _ c.add_filled-sum.ensures
+          _ o (λ i. (c.slice_known-3-1.given i).fits) c.run-a.auto.log;
+    }
+
+pub returns : goal.returns
+returns c = let o = goes_on_lem c.args.cfg c.args.rows.now c.args.state c.args.filled _ _ c.run-a.result _ c.run-a.ensures _ _ c.put_call-length.ensures _ c.add_filled-sum.ensures
+    c.is_terminal.result c.is_terminal.ensures c.if-is_terminal.false c.pass-p.result c.pass-p.ensures c.number-refusal.result
+    c.number-refusal.ensures in record {
+      whole_outcome = o;
+      prints_turns = prints c.args.cfg c.args.rows.now c.args.state c.args.filled _ _ c.run-a.result _ c.run-a.ensures _ _ c.put_call-length.ensures _ c.add_filled-sum.ensures
+          _ o (λ i. (c.slice_known-3-1.given i).fits) c.run-a.auto.log;
+    }

@@ -1,7 +1,0 @@
--- `observed::Observed::new` meets its contract. Assumes nothing.
-use borrow.Author.Rules.{rules}
-use Rattle.observed.proofs.Observed.new.Statement.{statement}
-use Rattle.observed.proofs.Observed.new.Tie as tie
-
-pub new_spec : {M : Type 1} → statement M
-new_spec = tie.close (tie.spec (λ c κs. search rules) (λ c. simp c.blank.ensures))

@@ -1,0 +1,11 @@
+-- `orders::Orders::remove` meets its contract, by the laws of `Loops` and `Exits`. Assumes nothing.
+use Prim.Native.Nat.{◌-◌}
+use Rattle.lists.proofs.Loops.{Removing}
+use Rattle.book.specs.Entries.{blank_order}
+use Rattle.orders.proofs.Orders.remove.Given as goal
+
+abbrev pub invariant-loop-i : goal.invariant-loop-i
+invariant-loop-i l = Removing blank_order l.at l.count l.initial.next.slots l.i l.next.slots
+
+abbrev pub decreases-loop-i : goal.decreases-loop-i
+decreases-loop-i l = l.last - l.i

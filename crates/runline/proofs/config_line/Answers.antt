@@ -1,0 +1,14 @@
+-- `runline::config_line` meets its contract. Assumes nothing.
+use borrow.Author.Tests.{not-true, not-false}
+use Rattle.numbers.specs.Choice.{pick}
+use Rattle.text.specs.Cursor.{fields_from}
+use Rattle.runline.proofs.LineLaws.{config-is}
+use Rattle.runline.proofs.config_line.Goals as goal
+
+pub returns-then-not-read : goal.returns-then-not-read
+unfolding pick
+returns-then-not-read c = rw (config-is (fields_from c.args.l.now c.args.at), ← c.only_numbers-read.ensures, not-true c.only_numbers-read.result.ok c.if-not-read.true)
+
+pub returns : goal.returns
+unfolding pick
+returns c = rw (config-is (fields_from c.args.l.now c.args.at), ← c.only_numbers-read.ensures, not-false c.only_numbers-read.result.ok c.if-not-read.false)

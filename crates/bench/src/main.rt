@@ -1,6 +1,8 @@
 // Runs generated days through `run` and `pass`: `oracle bench` runs the same days through the published Rust, and what the two print is equal, so that their times are times of the same work.
 // Arguments: the day (1 quiet, 2 queue fills, 3 messages, 4 busy; 0, all four), rows, orders, how often each day is run, and how many passes a batch makes (0: each call is a batch). Only the first run of a day is summed.
 // It is a tool: its functions are safe and end, and nothing is claimed of what it writes.
+#![tactic(auto)]
+
 mod day;
 mod line;
 
@@ -10,9 +12,10 @@ use day::{Day, config_of, put_rows, start_of};
 use kernel::pass;
 use line::{argument, put_line};
 use state::{KernelState, Phase};
+use std::io;
 
 // What a run of a day came to.
-#[derive(Drop)]
+#[derive(Clone, Copy)]
 struct Total {
     events: u64,
     sum: u64,
@@ -86,7 +89,13 @@ fn play(
 }
 
 // A day as often as asked; what its first run came to is printed.
-fn play_all(day: Day, repeats: u64, rows: &[u64], log: &mut [u64]) {
+fn play_all(
+    rt: &impl Print,
+    day: Day,
+    repeats: u64,
+    rows: &[u64],
+    log: &mut [u64],
+) -> io::Result<()> {
     let cfg = config_of(day);
     let start = start_of(day);
     let first = play(cfg, rows, start, log, true, day.passes);
@@ -95,30 +104,38 @@ fn play_all(day: Day, repeats: u64, rows: &[u64], log: &mut [u64]) {
         let r = play(cfg, rows, start, log, false, day.passes);
         events = std::num::wrapping_add_u64(events, r.events);
     }
-    put_line(day, events, first.sum, first.position);
+    put_line(rt, day, events, first.sum, first.position)
 }
 
 // The first words of the rows.
-fn play_first(day: Day, repeats: u64, rows: &[u64], words: usize, log: &mut [u64]) {
+fn play_first(
+    rt: &impl Print,
+    day: Day,
+    repeats: u64,
+    rows: &[u64],
+    words: usize,
+    log: &mut [u64],
+) -> io::Result<()> {
     if words <= rows.len() {
-        play_all(day, repeats, &rows[..words], log);
+        play_all(rt, day, repeats, &rows[..words], log)?;
     }
+    Ok(())
 }
 
 // Rows and log are made once a day, and are not cleared between its runs. The log has room for a call behind 512 records.
-fn play_day(day: Day, repeats: u64) {
+fn play_day(rt: &impl Print, day: Day, repeats: u64) -> io::Result<()> {
     let mut rows = [0u64; 40960];
     let mut log = [0u64; 12288];
     let words = put_rows(day, &mut rows);
-    play_first(day, repeats, &rows, words, &mut log);
+    play_first(rt, day, repeats, &rows, words, &mut log)
 }
 
-fn main() {
-    let number = argument(1, 0);
-    let count = argument(2, 64);
-    let orders = argument(3, 4);
-    let repeats = argument(4, 1);
-    let passes = argument(5, 0);
+fn main(rt: HostRuntime) -> io::Result<()> {
+    let number = argument(&rt, 1, 0);
+    let count = argument(&rt, 2, 64);
+    let orders = argument(&rt, 3, 4);
+    let repeats = argument(&rt, 4, 1);
+    let passes = argument(&rt, 5, 0);
     for n in 1..5u64 {
         if number == 0 || number == n {
             let day = Day {
@@ -127,7 +144,8 @@ fn main() {
                 orders,
                 passes,
             };
-            play_day(day, repeats);
+            play_day(&rt, day, repeats)?;
         }
     }
+    Ok(())
 }

@@ -72,7 +72,7 @@ fn advanced(d: &Desk, log: &mut Log) -> Advanced {
 }
 
 // What a call came to: the answer, and the events raised.
-#[derive(Drop)]
+#[derive(Clone, Copy)]
 struct Ran {
     answer: u64,
     raised: u64,

@@ -82,7 +82,7 @@ pub fn set(d: &mut Desk, at: usize, i: usize, n: u64) {
 }
 
 // Numbers in their order. A field of a struct costs a proof no step, as an element of an array does.
-#[derive(Drop)]
+#[derive(Clone, Copy)]
 pub struct Fields {
     pub a: u64,
     pub b: u64,

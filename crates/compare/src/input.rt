@@ -1,10 +1,14 @@
 // The reader: the bytes of the text, and its numbers.
 use super::desk::{BLOCK, Desk, get, least, set, wide};
+use std::io::Read;
+use std::rt::{Stdin, Stdout};
 
-// Where the text stands: the next byte and the number of its line, the place in the block and the block's end, whether a line was bad, from which on the reader stands still; how many bytes are gathered to be written.
+// Where the text comes from and goes to. Where it stands: the next byte and the number of its line, the place in the block and the block's end, whether a line was bad, from which on the reader stands still; how many bytes are gathered to be written.
 // Of a format: whether it is written, the cell of its next number, and whether the numbers up to the line's end are unused.
-#[derive(Drop)]
+#[derive(Clone, Copy)]
 pub struct Text {
+    pub input: Stdin,
+    pub output: Stdout,
     pub byte: u64,
     pub line: u64,
     pub at: usize,
@@ -19,11 +23,10 @@ pub struct Text {
 // What stands for a byte at the end of the text.
 pub const END: u64 = 256;
 
-// The next block. It gives its length.
-fn refill(d: &mut Desk) -> usize {
+// The next block. It gives its length. Where it cannot be read, the text ends.
+fn refill(d: &mut Desk, mut input: Stdin) -> usize {
     let mut text = [0u8; 4096];
-    let got = libc::read(0, &mut text);
-    let upto = io::count(got, &text);
+    let upto = input.read(&mut text).unwrap_or(0);
     for i in 0..least(upto, 4096) {
         set(d, BLOCK, i, wide(text[i]));
     }
@@ -40,7 +43,7 @@ pub fn step(d: &mut Desk, text: Text) -> Text {
         t.line = std::num::wrapping_add_u64(t.line, 1);
     }
     if t.at >= t.upto {
-        t.upto = refill(d);
+        t.upto = refill(d, t.input);
         t.at = 0;
     }
     t.byte = END;
@@ -60,7 +63,7 @@ pub fn expect(d: &mut Desk, text: Text, byte: u8) -> Text {
     step(d, t)
 }
 
-#[derive(Drop)]
+#[derive(Clone, Copy)]
 pub struct Number {
     pub text: Text,
     pub value: u64,

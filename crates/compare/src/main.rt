@@ -1,5 +1,7 @@
 // Reads cases on standard input, makes their calls with the kernel, and writes the outcomes on standard output: the case text of docs/COMPARE.md, by which any two implementations of the advance are held side by side.
 // It is a tool: its functions are safe and end, and nothing is claimed of what it reads and writes.
+#![tactic(auto)]
+
 mod calls;
 mod case;
 mod desk;
@@ -41,10 +43,12 @@ fn all_cases(d: &mut Desk, text: Text, log: &mut Log) -> Text {
     t
 }
 
-fn main() {
+fn main(rt: HostRuntime) {
     let mut d = [0u64; SIZE];
     let mut log = [0u64; 24576];
     let start = Text {
+        input: rt.stdin(),
+        output: rt.stdout(),
         byte: 0,
         line: 1,
         at: 0,
@@ -57,5 +61,5 @@ fn main() {
     };
     let first = step(&mut d, start);
     let last = all_cases(&mut d, first, &mut log);
-    flush(&d, last.length);
+    flush(&d, last);
 }

@@ -1,6 +1,7 @@
 // The writer: bytes and numbers are gathered on the desk.
 use super::desk::{Desk, GATHERED, get, least, set, wide};
 use super::input::Text;
+use std::rt::Stdout;
 
 fn bytes_of(d: &Desk, length: usize) -> [u8; 4096] {
     let mut text = [0u8; 4096];
@@ -10,22 +11,23 @@ fn bytes_of(d: &Desk, length: usize) -> [u8; 4096] {
     text
 }
 
-fn write_part(text: &[u8], length: usize) {
+// What cannot be written is lost.
+fn write_part(output: Stdout, text: &[u8], length: usize) {
     if length <= text.len() {
-        io::write_all(1, &text[..length]);
+        let _ = output.write_all(&text[..length]);
     }
 }
 
 // Writes what is gathered.
-pub fn flush(d: &Desk, length: usize) {
-    let text = bytes_of(d, length);
-    write_part(&text, length);
+pub fn flush(d: &Desk, text: Text) {
+    let bytes = bytes_of(d, text.length);
+    write_part(text.output, &bytes, text.length);
 }
 
 pub fn put(d: &mut Desk, text: Text, byte: u64) -> Text {
     let mut t = text;
     if t.length >= 4096 {
-        flush(d, t.length);
+        flush(d, t);
         t.length = 0;
     }
     set(d, GATHERED, t.length, byte);
@@ -35,7 +37,7 @@ pub fn put(d: &mut Desk, text: Text, byte: u64) -> Text {
 
 fn put_number(d: &mut Desk, text: Text, n: u64) -> Text {
     let mut digits = [0u8; 20];
-    let length = io::decimal(n, &mut digits);
+    let length = write::put_number(&mut digits, 0, n);
     let mut t = text;
     for i in 0..least(length, 20) {
         t = put(d, t, wide(digits[i]));

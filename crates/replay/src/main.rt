@@ -1,34 +1,44 @@
 // Replays run files: those that the arguments name, or `run.txt`. What is printed of them is `lines`' and `day`'s to say; here are only files and loops.
+#![tactic(auto)]
+
+ghost use Rattle.std.specs.Prelude.{◌≤◌, length};
+ghost use Rattle.std.specs.Io.{ReadsAtMost};
+
 use book::config::Config;
 use day::{Turned, put_end, turns};
-use libc::STDOUT_FILENO;
 use lines::put_bad;
 use numbers::MaybeU64;
 use runtext::read;
 use state::KernelState;
+use std::env::FillError;
+use std::fs::File;
+use std::io::Read;
+use std::rt::{Env, Files};
+use std::{io, str};
 
 // The first n bytes. False where they cannot be written.
-fn print(out: &[u8], n: usize) -> bool {
+fn print(rt: &impl Print, out: &[u8], n: usize) -> bool {
     if n <= out.len() {
-        return io::write_all(STDOUT_FILENO, &out[..n]);
+        return rt.write_all(&out[..n]).is_ok();
     }
     false
 }
 
-fn print_bad(line: u64) {
-    let mut out = io::buffer();
+fn print_bad(rt: &impl Print, line: u64) {
+    let mut out = [0u8; 4096];
     let n = put_bad(&mut out, line);
-    print(&out, n);
+    print(rt, &out, n);
 }
 
-fn print_end(state: KernelState, filled: u64) {
-    let mut out = io::buffer();
+fn print_end(rt: &impl Print, state: KernelState, filled: u64) {
+    let mut out = [0u8; 4096];
     let n = put_end(&mut out, state, filled);
-    print(&out, n);
+    print(rt, &out, n);
 }
 
 // A batch of turns with its lines. A run whose lines cannot be written goes no further.
 fn print_turns(
+    rt: &impl Print,
     cfg: Config,
     rows: &[u64],
     state: KernelState,
@@ -37,14 +47,14 @@ fn print_turns(
     out: &mut [u8],
 ) -> Turned {
     let mut t = turns(cfg, rows, state, filled, log, out);
-    if !print(out, t.length) {
+    if !print(rt, out, t.length) {
         t.more = false;
     }
     t
 }
 
 // The log of a batch is 1,023 records, and the text has room for their lines. A proved loop has to end, so its batches count down, from more than any run has: each turn but the last pauses at a row's observation, and a run file has at most 512 rows.
-fn run(cfg: Config, rows: &[u64], start: KernelState) {
+fn run(rt: &impl Print, cfg: Config, rows: &[u64], start: KernelState) {
     let mut words = [0u64; 12276];
     let log: &mut [u64] = &mut words;
     let mut text = [0u8; 131072];
@@ -54,80 +64,125 @@ fn run(cfg: Config, rows: &[u64], start: KernelState) {
     let mut more = true;
     let mut batches = u64::MAX;
     while more && batches > 0 {
-        let t = print_turns(cfg, rows, state, filled, log, out);
+        let t = print_turns(rt, cfg, rows, state, filled, log, out);
         state = t.state;
         filled = t.filled;
         more = t.more;
         batches -= 1;
     }
-    print_end(state, filled);
+    print_end(rt, state, filled);
 }
 
 // The first n of the rows that stand there. A run file has at most 512: the test is for the part that is lent.
-fn run_first(cfg: Config, rows: [u64; 2560], n: usize, start: KernelState) {
+fn run_first(rt: &impl Print, cfg: Config, rows: [u64; 2560], n: usize, start: KernelState) {
     if n <= 512 {
         let end = n * 5;
-        run(cfg, &rows[..end], start);
+        run(rt, cfg, &rows[..end], start);
     }
 }
 
-fn replay_text(text: &[u8]) {
+fn replay_text(rt: &impl Print, text: &[u8]) {
     let mut rows = [0u64; 2560];
     let script = read(text, &mut rows);
     let bad = script.bad;
     if let MaybeU64::Some(line) = bad {
-        print_bad(line);
+        print_bad(rt, line);
         return;
     }
-    run_first(script.cfg, rows, script.rows, script.state);
+    run_first(rt, script.cfg, rows, script.rows, script.state);
 }
 
-// Behind what was read: where a file could not be read to its end, as a folder, a further read fails too.
-fn is_unreadable(fd: i32) -> bool {
-    let mut byte = [0u8; 1];
-    libc::read(fd, &mut byte) < 0
-}
-
-// One byte more than a run file may have tells that it is too long. A file that cannot be opened or read is missing.
-fn replay(path: &[u8]) {
-    let fd = os::open_read(path);
-    if fd < 0 {
-        print_bad(0);
-        return;
+// Reads until the text is full or the file ends. It gives how many bytes were read.
+fn read_full(file: &mut impl Read, text: &mut [u8]) -> io::Result<usize>
+    ensures { ReadsAtMost result text.new }
+{
+    let mut done = 0;
+    while done < text.len() {
+        let n = file.read(&mut text[done..])?;
+        if n == 0 {
+            break;
+        }
+        done += n;
     }
+    Ok(done)
+}
+
+fn read_file(rt: &impl Files, path: &str, text: &mut [u8]) -> io::Result<usize>
+    ensures { ReadsAtMost result text.new }
+{
+    let mut file = File::open(rt, path)?;
+    read_full(&mut file, text)
+}
+
+// One byte more than a run file may have tells that it is too long. A file that cannot be opened or read, as a folder, is missing.
+fn replay_file(rt: &(impl Files + Print), path: &str) {
     let mut text = [0u8; 65537];
-    let n = io::read_full(fd, &mut text);
-    let missing = is_unreadable(fd);
-    libc::close(fd);
-    if missing {
-        print_bad(0);
-        return;
+    match read_file(rt, path, &mut text) {
+        Ok(n) => replay_text(rt, &text[..n]),
+        Err(_) => print_bad(rt, 0),
     }
-    replay_text(&text[..n]);
+}
+
+// A name that is not UTF-8 opens no file.
+fn replay(rt: &(impl Files + Print), path: &[u8]) {
+    match str::from_utf8(path) {
+        Ok(name) => replay_file(rt, name),
+        Err(_) => print_bad(rt, 0),
+    }
+}
+
+// An argument that is longer than the text it is read into is there, too.
+fn has_arg(rt: &impl Env, i: usize) -> bool {
+    let mut text = [0u8; 1];
+    match rt.arg(i, &mut text) {
+        Ok(_) => true,
+        Err(FillError::TooLong) => true,
+        Err(FillError::NotPresent) => false,
+    }
+}
+
+// The arguments, with the program's name.
+fn arg_count(rt: &impl Env) -> usize {
+    for i in 0..usize::MAX {
+        if !has_arg(rt, i) {
+            return i;
+        }
+    }
+    usize::MAX
+}
+
+// Argument i at the start of the text. It gives its length, and 0 where it is longer than the text.
+fn arg(rt: &impl Env, i: usize, text: &mut [u8]) -> usize
+    ensures { result ≤ length text.new }
+{
+    match rt.arg(i, text) {
+        Ok(n) => n,
+        Err(_) => 0,
+    }
 }
 
 // The run file that argument i names, under a heading where it is one of several.
-fn replay_arg(i: usize, several: bool) {
-    let mut path = io::buffer();
-    let n = os::arg(i, &mut path);
+fn replay_arg(rt: &(impl Env + Files + Print), i: usize, several: bool) {
+    let mut path = [0u8; 4096];
+    let n = arg(rt, i, &mut path);
     if several {
-        io::write_all(STDOUT_FILENO, b"== ");
-        io::write_all(STDOUT_FILENO, &path[..n]);
-        io::write_all(STDOUT_FILENO, b"\n");
+        print(rt, b"== ", 3);
+        print(rt, &path, n);
+        print(rt, b"\n", 1);
     }
-    replay(&path[..n]);
+    replay(rt, &path[..n]);
 }
 
-fn main() {
-    let count = os::arg_count();
+fn main(rt: HostRuntime) {
+    let count = arg_count(&rt);
     if count < 2 {
-        replay(b"run.txt");
+        replay(&rt, b"run.txt");
         return;
     }
     let several = count > 2;
     let mut i = 1;
     while i < count {
-        replay_arg(i, several);
+        replay_arg(&rt, i, several);
         i += 1;
     }
 }

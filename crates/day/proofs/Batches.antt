@@ -25,18 +25,15 @@ use Rattle.entry.proofs.EntryExits.{pass_waits}
 use Rattle.text.specs.Bytes.{bytes}
 use Rattle.logline.specs.Record.{event_line}
 use Rattle.lines.specs.Print.{printed, records_of, call_text, filled_lots, filled_from, filled_after}
+use Rattle.day.specs.EveryEvent.{lines_of}
 use Rattle.day.specs.Replay.{empty_log, has_more, passed_on, last_of, turns_from}
 
 -- ---- the lines of events and the lots that their reports fill, whatever log they stand in
-lines_of : List KernelEvent → List ℕ
-lines_of [] = []
-lines_of (e ∷ es) = event_line (event_words e) ++ lines_of es
-
 unfoldable pub sum_of : ℕ → List KernelEvent → ℕ
 sum_of sum [] = sum
 sum_of sum (e ∷ es) = sum_of (min (sum + filled_lots (event_words e)) 18446744073709551615) es
 
-lines_append : (xs ys : List KernelEvent) → lines_of (xs ++ ys) ≡ lines_of xs ++ lines_of ys
+pub lines_append : (xs ys : List KernelEvent) → lines_of (xs ++ ys) ≡ lines_of xs ++ lines_of ys
 unfolding lines_of
 lines_append [] ys = refl
 lines_append (e ∷ xs) ys = ap (λ (l : List ℕ). event_line (event_words e) ++ l) (lines_append xs ys) ∙ sym (append_assoc (event_line (event_words e)) (lines_of xs) (lines_of ys))
@@ -126,7 +123,7 @@ module _ (es : List KernelEvent) (h : length es ≤ 512) where
   all_shown : shown es ≡ length es
   all_shown = omega arith
 
-  whole_lines : call_lines es ≡ lines_of es
+  pub whole_lines : call_lines es ≡ lines_of es
   unfolding call_lines pick
   whole_lines = rw (all_shown, le-ltb (length es) (length es) (omega arith), take-length es) (append-nil (lines_of es))
 

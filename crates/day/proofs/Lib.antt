@@ -1,4 +1,5 @@
 pub mod Batches
+pub mod EveryEvent
 pub mod Filled
 pub mod Sample
 pub mod TurnExits

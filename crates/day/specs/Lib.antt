@@ -1,3 +1,4 @@
 pub mod Day
+pub mod EveryEvent
 pub mod Filled
 pub mod Replay

@@ -29,7 +29,7 @@ use Rattle.rules.proofs.Cases.{word_case}
 use Rattle.rules.proofs.Within.{Within, ran_in, halted_in, halt_in, ended_in, pick_in, some_in, word_in, taking_in, putting_in, ran_out, then_in}
 use Rattle.rules.proofs.Falls.{Kept, less, raise_in, stamp_in, report_in, await_in, removed_in, fewer_in, deliver_in, walk_in, own}
 
-stored-few : (i h : ℕ) (o : VenueOrder) (r : Row VenueOrder) → r.count ≤ h → (store_at 8 i o r).list.count ≤ h
+pub stored-few : (i h : ℕ) (o : VenueOrder) (r : Row VenueOrder) → r.count ≤ h → (store_at 8 i o r).list.count ≤ h
 stored-few i h o r w = store_case 8 (λ (q : Put VenueOrder). q.list.count ≤ h) i o r (λ _ _. w) w
 
 module _ {x : ℕ} {p : Phase} {h : ℕ} where
@@ -89,7 +89,7 @@ module _ {x : ℕ} {p : Phase} {h : ℕ} where
   all_in j zero s k = ran_in k
   all_in j (suc l) s k = then_in (deliver_in j j s (omega arith) (λ _. omega arith) k) (λ m t g. all_in j l t g)
 
-live-few : {A : Type 0} (most : ℕ) (r : Row A) → length (live most r) ≤ r.count
+pub live-few : {A : Type 0} (most : ℕ) (r : Row A) → length (live most r) ≤ r.count
 unfolding live
 live-few most r = pick_case (λ l. length l ≤ r.count) (leb r.count most) (below r) [] (λ _. omega (arith, length-take r.count r.slots)) (λ _. omega arith)
 

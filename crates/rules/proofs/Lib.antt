@@ -1,9 +1,17 @@
 pub mod Loop
 pub mod Within
+pub mod Bounded
+pub mod Costs
+pub mod CostsOfRow
 pub mod Falls
+pub mod Paid
 pub mod Fewer
 pub mod EventsBound
+pub mod HowFar
+pub mod Farthest
+pub mod RowsRead
 pub mod Cases
+pub mod Counts
 pub mod Kept
 pub mod Steps
 pub mod Positions

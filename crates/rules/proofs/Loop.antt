@@ -10,17 +10,18 @@ abbrev pub run_of : Turn → Run
 run_of (again r) = r
 run_of (last r) = r
 
-module _ (step : KernelState → Turn) (w : KernelState → ℕ) (falls : (s : KernelState) (r : Run) → step s ≡ again r → r.outcome ≡ ran → w r.state < w s) where
-  same_then : (r : Run) (k j : KernelState → Run) → (r.outcome ≡ ran → k r.state ≡ j r.state) → and_then r k ≡ and_then r j
-  unfolding and_then
-  same_then r k j h = go r.outcome refl
-    where
-      go : (o : Outcome) → r.outcome ≡ o → on_ran o r (after r.events (k r.state)) ≡ on_ran o r (after r.events (j r.state))
-      go ran e = ap (after r.events) (h e)
-      go left e = refl
-      go (halt n) e = refl
-      go (ended ms) e = refl
+-- steps that go on alike where the first ran
+pub same_then : (r : Run) (k j : KernelState → Run) → (r.outcome ≡ ran → k r.state ≡ j r.state) → and_then r k ≡ and_then r j
+unfolding and_then
+same_then r k j h = go r.outcome refl
+  where
+    go : (o : Outcome) → r.outcome ≡ o → on_ran o r (after r.events (k r.state)) ≡ on_ran o r (after r.events (j r.state))
+    go ran e = ap (after r.events) (h e)
+    go left e = refl
+    go (halt n) e = refl
+    go (ended ms) e = refl
 
+module _ (step : KernelState → Turn) (w : KernelState → ℕ) (falls : (s : KernelState) (r : Run) → step s ≡ again r → r.outcome ≡ ran → w r.state < w s) where
   pub stable : (n m : ℕ) (s : KernelState) → w s < n → w s < m → iter step n s ≡ iter step m s
   unfolding iter
   stable zero m s h k = absurd (omega arith)

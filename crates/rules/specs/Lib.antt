@@ -11,3 +11,6 @@ pub mod Calls
 pub mod Examples
 pub mod Conservation
 pub mod Batch
+pub mod HowFar
+pub mod RowsRead
+pub mod FewEvents

@@ -1,3 +1,5 @@
 pub mod ReadLaws
 pub mod Examples
+pub mod EachLine
 pub mod Start
+pub mod Uncut

@@ -40,7 +40,7 @@ use Rattle.runtake.specs.declared.Reading.{Reading}
 use Rattle.runtake.specs.declared.Taken.{Taken}
 
 -- ---- the order of a line has no lots filled
-Unfilled : Line → Type 0
+unfoldable pub Unfilled : Line → Type 0
 Unfilled line.Bad = Unit {0}
 Unfilled (line.Config cfg seed) = Unit {0}
 Unfilled (line.Fill f) = Unit {0}
@@ -100,7 +100,7 @@ row_unfilled fs =
     test_unfilled _ _ (number_unfilled _ _ λ _. number_unfilled _ _ λ _. number_unfilled _ _ λ _. number_unfilled _ _ λ _. number_unfilled _ _ λ _. tt)
 
 -- whatever the fields say
-line_unfilled : (fs : List (List ℕ)) → Unfilled (line_of fs)
+pub line_unfilled : (fs : List (List ℕ)) → Unfilled (line_of fs)
 unfolding line_of
 line_unfilled fs =
     pick_case Unfilled _ _ _ (λ _. config_unfilled fs)
@@ -111,7 +111,7 @@ line_unfilled fs =
 
 -- ---- lists
 -- a sum stays where each entry is rewritten to one that adds as much
-total-same : {A : Type 0} (f : A → ℕ) (g : A → A) → ((x : A) → f (g x) ≡ f x) → (n : ℕ) (l : List A) → total f (take n (map g l)) ≡ total f (take n l)
+pub total-same : {A : Type 0} (f : A → ℕ) (g : A → A) → ((x : A) → f (g x) ≡ f x) → (n : ℕ) (l : List A) → total f (take n (map g l)) ≡ total f (take n l)
 unfolding total
 total-same f g h zero l = refl
 total-same f g h (suc n) [] = refl
@@ -137,7 +137,7 @@ blank_carried = record { lots = go }
 
 -- ---- an order's lots
 -- from the lots l to the lots m, n lots of side e have come
-abbrev Grown : Side → ℕ → Lots → Lots → Type 0
+abbrev pub Grown : Side → ℕ → Lots → Lots → Type 0
 Grown e n l m = (d : Side) → on_side d m.buy m.sell ≡ of_side d e n + on_side d l.buy l.sell
 
 -- lots come to their side alone
@@ -175,12 +175,12 @@ abbrev CarriedAfter : Taken → Type 0
 CarriedAfter t = Carried t.reading
 
 -- lots are reserved, or the line is bad
-reserved_case : (P : Taken → Type 0) (l : Lots) (e : Side) (n : ℕ) {k : Lots → Taken} {z : Taken} → ((m : Lots) → Grown e n l m → P (k m)) → P z → P (on_reserved (reserved l e n) k z)
+pub reserved_case : (P : Taken → Type 0) (l : Lots) (e : Side) (n : ℕ) {k : Lots → Taken} {z : Taken} → ((m : Lots) → Grown e n l m → P (k m)) → P z → P (on_reserved (reserved l e n) k z)
 unfolding reserved on_reserved
 reserved_case P l e n {k} {z} h g = pick_case (λ r. P (on_reserved r k z)) _ _ _ (λ _. h _ (grown-one l e n)) (λ _. g)
 
 -- an entry goes into a list, or the line is bad
-put_in_case : (P : Taken → Type 0) {A : Type 0} {most : ℕ} (i : ℕ) {v : A} {r : Row A} {k : Row A → Taken} {z : Taken}
+pub put_in_case : (P : Taken → Type 0) {A : Type 0} {most : ℕ} (i : ℕ) {v : A} {r : Row A} {k : Row A → Taken} {z : Taken}
     → ((l : Row A) → Added most v r l → P (k l)) → P z → P (on_put (put_at most i v r) k z)
 unfolding on_put pick
 put_in_case P {most} i {v} {r} {k} {z} h g = put_case most (λ p. P (on_put p k z)) i v r h g

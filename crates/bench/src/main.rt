@@ -4,17 +4,30 @@
 #![tactic(auto)]
 
 mod day;
-mod line;
 
 use batch::run;
 use book::config::Config;
-use day::{Day, config_of, put_rows, start_of};
+use day::{Day, Kind};
 use kernel::pass;
-use line::{argument, put_line};
 use state::{KernelState, Phase};
-use std::io;
+use std::{env, io};
 
-// What a run of a day came to.
+const EVENT_WORDS: usize = 12;
+
+// The log has room for a call behind 512 records.
+const LOG_WORDS: usize = 1024 * EVENT_WORDS;
+
+// What the batches of a day are given.
+#[derive(Drop)]
+struct Bench<'r, 'l> {
+    cfg: Config,
+    rows: &'r [u64],
+    log: &'l mut [u64],
+    // how many passes a batch makes
+    passes: u64,
+}
+
+// What runs of a day came to.
 #[derive(Clone, Copy)]
 struct Total {
     events: u64,
@@ -22,129 +35,97 @@ struct Total {
     position: i64,
 }
 
-fn is_paused(phase: Phase) -> bool {
-    match phase {
-        Phase::BeforeMatch => false,
-        Phase::ObsQueued => false,
-        Phase::AwaitDecision => true,
-        Phase::Terminal => false,
-    }
+// The sum turns left by one bit before each word of the events that the log holds.
+fn add_events(sum: u64, log: &[u64], events: u64) -> u64 {
+    let words = EVENT_WORDS.saturating_mul(events as usize);
+    log.iter()
+        .take(words)
+        .fold(sum, |sum, word| sum.rotate_left(1).wrapping_add(*word))
 }
 
-// The sum turns left by one bit before each word.
-fn add_word(sum: u64, word: u64) -> u64 {
-    let turned = (sum << 1) ^ (sum >> 63);
-    std::num::wrapping_add_u64(turned, word)
-}
-
-// The words of the events that the log holds.
-fn add_log(sum: u64, log: &[u64], events: u64) -> u64 {
-    let mut s = sum;
-    for i in 0..log.len() {
-        let record = (i / 12) as u64;
-        if record >= events {
-            break;
+impl Bench<'_, '_> {
+    // A day from its start to its end, a pass between two batches.
+    fn play(&mut self, start: KernelState, summed: bool) -> Total {
+        let mut state = start;
+        let mut events = 0u64;
+        let mut sum = 0;
+        for _ in 0..u64::MAX {
+            let batch = run(&self.cfg, self.rows, state, self.log, self.passes);
+            state = batch.state;
+            events = events.wrapping_add(batch.events);
+            if summed {
+                sum = add_events(sum, self.log, batch.events);
+            }
+            if state.control.phase != Phase::AwaitDecision {
+                break;
+            }
+            state = pass(state).state;
         }
-        s = add_word(s, log[i]);
+        Total {
+            events,
+            sum,
+            position: state.gate.venue_pos.lots,
+        }
     }
-    s
+
+    // A day as often as asked: the events of all runs, and what the first one came to.
+    fn play_all(&mut self, start: KernelState, repeats: u64) -> Total {
+        let mut total = self.play(start, true);
+        for _ in 1..repeats {
+            let again = self.play(start, false);
+            total.events = total.events.wrapping_add(again.events);
+        }
+        total
+    }
 }
 
-// A day from its start to its end, a pass between two batches.
-fn play(
-    cfg: Config,
-    rows: &[u64],
-    start: KernelState,
-    log: &mut [u64],
-    summed: bool,
+// Rows and log are made once a day, and are not cleared between its runs.
+fn play_day(
+    rt: &(impl Print + AllocGlobal),
+    day: Day,
+    repeats: u64,
     passes: u64,
-) -> Total {
-    let mut a = run(cfg, rows, start, log, passes);
-    let mut events = a.events;
-    let mut sum = 0;
-    if summed {
-        sum = add_log(sum, log, a.events);
-    }
-    for _ in 0..u64::MAX {
-        let control = a.state.control;
-        let phase = control.phase;
-        if !is_paused(phase) {
-            break;
-        }
-        let p = pass(a.state);
-        // the state goes back into the variable that it came from, so that it is not copied on the way
-        let t = p.state;
-        a.state = t;
-        a = run(cfg, rows, a.state, log, passes);
-        events = std::num::wrapping_add_u64(events, a.events);
-        if summed {
-            sum = add_log(sum, log, a.events);
-        }
-    }
-    Total {
-        events,
-        sum,
-        position: a.state.gate.venue_pos.lots,
-    }
-}
-
-// A day as often as asked; what its first run came to is printed.
-fn play_all(
-    rt: &impl Print,
-    day: Day,
-    repeats: u64,
-    rows: &[u64],
-    log: &mut [u64],
 ) -> io::Result<()> {
-    let cfg = config_of(day);
-    let start = start_of(day);
-    let first = play(cfg, rows, start, log, true, day.passes);
-    let mut events = first.events;
-    for _ in 1..repeats {
-        let r = play(cfg, rows, start, log, false, day.passes);
-        events = std::num::wrapping_add_u64(events, r.events);
-    }
-    put_line(rt, day, events, first.sum, first.position)
+    let rows = day.rows(rt.alloc())?;
+    let mut log = [0u64; LOG_WORDS];
+    let mut bench = Bench {
+        cfg: day.config(),
+        rows: &rows,
+        log: &mut log,
+        passes,
+    };
+    let total = bench.play_all(day.start(), repeats);
+    let number = u64::from(day.kind);
+    println!(rt;
+        "day {number} rows {} orders {} position {} events {} sum {}",
+        day.rows, day.orders, total.position, total.events, total.sum
+    )
 }
 
-// The first words of the rows.
-fn play_first(
-    rt: &impl Print,
-    day: Day,
-    repeats: u64,
-    rows: &[u64],
-    words: usize,
-    log: &mut [u64],
-) -> io::Result<()> {
-    if words <= rows.len() {
-        play_all(rt, day, repeats, &rows[..words], log)?;
+// An argument is a number of at most nine digits.
+fn number_in(text: &str) -> Option<u64> {
+    if text.len() > 9 || text.starts_with('+') {
+        return None;
     }
-    Ok(())
+    text.parse().ok()
 }
 
-// Rows and log are made once a day, and are not cleared between its runs. The log has room for a call behind 512 records.
-fn play_day(rt: &impl Print, day: Day, repeats: u64) -> io::Result<()> {
-    let mut rows = [0u64; 40960];
-    let mut log = [0u64; 12288];
-    let words = put_rows(day, &mut rows);
-    play_first(rt, day, repeats, &rows, words, &mut log)
+fn argument(args: &[String], i: usize, other: u64) -> u64 {
+    args.get(i)
+        .and_then(|text| number_in(text.as_str()))
+        .unwrap_or(other)
 }
 
 fn main(rt: HostRuntime) -> io::Result<()> {
-    let number = argument(&rt, 1, 0);
-    let count = argument(&rt, 2, 64);
-    let orders = argument(&rt, 3, 4);
-    let repeats = argument(&rt, 4, 1);
-    let passes = argument(&rt, 5, 0);
-    for n in 1..5u64 {
-        if number == 0 || number == n {
-            let day = Day {
-                number: n,
-                rows: count,
-                orders,
-                passes,
-            };
-            play_day(&rt, day, repeats)?;
+    let args: Vec<String> = env::args(&rt)?.collect(rt.alloc())?;
+    let number = argument(&args, 1, 0);
+    let rows = argument(&args, 2, 64);
+    let orders = argument(&args, 3, 4);
+    let repeats = argument(&args, 4, 1);
+    let passes = argument(&args, 5, 0);
+    for kind in Kind::ALL {
+        if number == 0 || Kind::try_from(number) == Ok(kind) {
+            play_day(&rt, Day { kind, rows, orders }, repeats, passes)?;
         }
     }
     Ok(())

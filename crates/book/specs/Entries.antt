@@ -1,6 +1,5 @@
 -- The entries of the lists: their blanks, and what is asked of one.
-use Rattle.std.specs.Prelude.{ℕ, ◌-◌, Bool, true, false, not, ◌&&◌, ltb, eqb}
-use Rattle.std.proofs.Math.Option.{Option, none, some}
+use Rattle.std.specs.Prelude.{ℕ, ◌-◌, Bool, true, false, not, ◌&&◌, ltb, eqb, None}
 use Rattle.numbers.specs.Choice.{pick}
 use Rattle.book.specs.declared.Side.{Side}
 use Rattle.book.specs.declared.Side.TheVariants.{Buy, Sell}
@@ -8,7 +7,6 @@ use Rattle.book.specs.declared.OrderState.{OrderState}
 use Rattle.book.specs.declared.OrderState.TheVariants as order
 use Rattle.book.specs.declared.ExecKind.TheVariants as exec
 use Rattle.book.specs.declared.Origin.TheVariants as origin
-use Rattle.book.specs.declared.MaybeFill.TheVariants as fill
 use Rattle.book.specs.declared.MsgKind.{MsgKind}
 use Rattle.book.specs.declared.MsgKind.TheVariants.{Cancel, Activate, Expire}
 use Rattle.book.specs.declared.VenueOrder.{VenueOrder}
@@ -16,8 +14,6 @@ use Rattle.book.specs.declared.VenueMsg.{VenueMsg}
 use Rattle.book.specs.declared.Delivery.{Delivery}
 use Rattle.book.specs.declared.ObsEntry.{ObsEntry}
 use Rattle.book.specs.declared.OpenOrder.{OpenOrder}
-use Rattle.book.specs.declared.Found.{Found}
-use Rattle.book.specs.declared.Found.TheVariants as found
 
 -- ---- "An emptied slot becomes blank: zeros, false, first cases, none, Cancel of 0"
 abbrev pub blank_order : VenueOrder
@@ -30,7 +26,7 @@ abbrev pub blank_delivery : Delivery
 blank_delivery = record {
   at_ns = 0;
   report = record { ts_ns = 0; seq = 0; order_id = 0; side = Buy; kind = exec.Accepted; origin = origin.Local; cancel_pending = false; price = 0; qty = 0; last = 0; cum = 0 };
-  fill = fill.None;
+  fill = None;
 }
 
 abbrev pub blank_obs : ObsEntry
@@ -103,8 +99,3 @@ is_expiry id m = expires id m.kind
 -- ---- of an account entry
 abbrev pub is_open_of : ℕ → OpenOrder → Bool
 is_open_of id a = eqb a.order_id id
-
--- ---- what a search answers
-abbrev pub place : Found → Option ℕ
-place found.None = none
-place (found.At i) = some i

@@ -6,30 +6,30 @@ pub mod config;
 
 ghost use Rattle.std.specs.Prelude.{◌≡◌};
 ghost use Rattle.book.specs.Entries.{remaining, in_state, is_terminal, is_open, is_later, is_activation, is_expiry, blank_order, blank_msg, blank_delivery, blank_obs, blank_open};
-ghost use Rattle.book.specs.Numbers.{side_number, exec_number, origin_number, flag_number};
+ghost use Rattle.book.specs.Numbers.{side_number, exec_number, origin_number};
 
-use numbers::words::saturating_sub;
+use lists::Blank;
 
 // The Rust's Dir.
-#[derive(Clone, Copy)]
+#[derive(Clone, Copy, PartialEq, Eq)]
 pub enum Side {
     Buy,
     Sell,
 }
 
-impl Side {
-    // The paper's number.
-    pub fn number(self) -> u64
-        ensures { result ≡ side_number self }
-    {
-        match self {
+// The paper's number.
+impl From<Side> for u64 {
+    ghost from_gives = { λ side n. n ≡ side_number side };
+
+    fn from(side: Side) -> u64 {
+        match side {
             Side::Buy => 0,
             Side::Sell => 1,
         }
     }
 }
 
-#[derive(Clone, Copy)]
+#[derive(Clone, Copy, PartialEq, Eq)]
 pub enum OrderState {
     Submitted,
     Active,
@@ -42,13 +42,10 @@ impl OrderState {
     pub fn is_terminal(self) -> bool
         ensures { result ≡ is_terminal self }
     {
-        match self {
-            OrderState::Submitted => false,
-            OrderState::Active => false,
-            OrderState::Filled => true,
-            OrderState::Canceled => true,
-            OrderState::Rejected => true,
-        }
+        matches!(
+            &self,
+            OrderState::Filled | OrderState::Canceled | OrderState::Rejected
+        )
     }
 }
 
@@ -65,10 +62,10 @@ pub struct VenueOrder {
     pub cancel_inflight: bool,
 }
 
-impl VenueOrder {
-    pub fn blank() -> Self
-        ensures { result ≡ blank_order }
-    {
+impl Blank for VenueOrder {
+    ghost blank = { blank_order };
+
+    fn blank() -> Self {
         VenueOrder {
             id: 0,
             side: Side::Buy,
@@ -80,42 +77,27 @@ impl VenueOrder {
             cancel_inflight: false,
         }
     }
+}
 
-    pub fn remaining(self) -> u64
-        ensures { result ≡ remaining self }
+impl VenueOrder {
+    pub fn remaining(&self) -> u64
+        ensures { result ≡ remaining self.now }
     {
-        saturating_sub(self.qty, self.filled)
+        self.qty.saturating_sub(self.filled)
     }
 
-    // The order in another state. A field that is an enum is not stored to, so the struct is made anew.
-    pub fn in_state(self, state: OrderState) -> VenueOrder
+    // The order in another state.
+    pub fn in_state(self, state: OrderState) -> Self
         ensures { result ≡ in_state self state }
     {
-        let side = self.side;
-        VenueOrder {
-            id: self.id,
-            side,
-            price: self.price,
-            qty: self.qty,
-            filled: self.filled,
-            state,
-            active_after_ns: self.active_after_ns,
-            cancel_inflight: self.cancel_inflight,
-        }
+        VenueOrder { state, ..self }
     }
 
     // Whether it has this number and is not terminal.
-    pub fn is_open(self, id: u64) -> bool
-        ensures { result ≡ is_open id self }
+    pub fn is_open(&self, id: u64) -> bool
+        ensures { result ≡ is_open id self.now }
     {
-        if self.id != id {
-            return false;
-        }
-        let state = self.state;
-        if state.is_terminal() {
-            return false;
-        }
-        true
+        self.id == id && !self.state.is_terminal()
     }
 }
 
@@ -135,51 +117,46 @@ pub struct VenueMsg {
     pub kind: MsgKind,
 }
 
-impl VenueMsg {
-    pub fn blank() -> Self
-        ensures { result ≡ blank_msg }
-    {
+impl Blank for VenueMsg {
+    ghost blank = { blank_msg };
+
+    fn blank() -> Self {
         VenueMsg {
             eff_ns: 0,
             seq: 0,
             kind: MsgKind::Cancel { id: 0 },
         }
     }
+}
 
+impl VenueMsg {
     // Whether its pair is greater than (eff_ns, seq).
-    pub fn is_later(self, eff_ns: u64, seq: u64) -> bool
-        ensures { result ≡ is_later eff_ns seq self }
+    pub fn is_later(&self, eff_ns: u64, seq: u64) -> bool
+        ensures { result ≡ is_later eff_ns seq self.now }
     {
-        if self.eff_ns == eff_ns {
-            return seq < self.seq;
-        }
-        eff_ns < self.eff_ns
+        (self.eff_ns, self.seq) > (eff_ns, seq)
     }
 
-    pub fn is_activation(self, id: u64) -> bool
-        ensures { result ≡ is_activation id self }
+    pub fn is_activation(&self, id: u64) -> bool
+        ensures { result ≡ is_activation id self.now }
     {
-        let kind = self.kind;
-        match kind {
-            MsgKind::Cancel { id: _ } => false,
-            MsgKind::Activate { order, life: _ } => order.id == id,
-            MsgKind::Expire { id: _ } => false,
+        match self.kind {
+            MsgKind::Activate { order, .. } => order.id == id,
+            MsgKind::Cancel { .. } | MsgKind::Expire { .. } => false,
         }
     }
 
-    pub fn is_expiry(self, id: u64) -> bool
-        ensures { result ≡ is_expiry id self }
+    pub fn is_expiry(&self, id: u64) -> bool
+        ensures { result ≡ is_expiry id self.now }
     {
-        let kind = self.kind;
-        match kind {
-            MsgKind::Cancel { id: _ } => false,
-            MsgKind::Activate { order: _, life: _ } => false,
+        match self.kind {
             MsgKind::Expire { id: target } => target == id,
+            MsgKind::Cancel { .. } | MsgKind::Activate { .. } => false,
         }
     }
 }
 
-#[derive(Clone, Copy)]
+#[derive(Clone, Copy, PartialEq, Eq)]
 pub enum ExecKind {
     Accepted,
     Rejected,
@@ -189,12 +166,12 @@ pub enum ExecKind {
     Fill,
 }
 
-impl ExecKind {
-    // The paper's number.
-    pub fn number(self) -> u64
-        ensures { result ≡ exec_number self }
-    {
-        match self {
+// The paper's number.
+impl From<ExecKind> for u64 {
+    ghost from_gives = { λ kind n. n ≡ exec_number kind };
+
+    fn from(kind: ExecKind) -> u64 {
+        match kind {
             ExecKind::Accepted => 0,
             ExecKind::Rejected => 1,
             ExecKind::Canceled => 2,
@@ -206,32 +183,22 @@ impl ExecKind {
 }
 
 // Where a report was produced.
-#[derive(Clone, Copy)]
+#[derive(Clone, Copy, PartialEq, Eq)]
 pub enum Origin {
     Local,
     Venue,
 }
 
-impl Origin {
-    // The paper's number.
-    pub fn number(self) -> u64
-        ensures { result ≡ origin_number self }
-    {
-        match self {
+// The paper's number.
+impl From<Origin> for u64 {
+    ghost from_gives = { λ origin n. n ≡ origin_number origin };
+
+    fn from(origin: Origin) -> u64 {
+        match origin {
             Origin::Local => 0,
             Origin::Venue => 1,
         }
     }
-}
-
-// A yes or no as a word.
-pub fn flag_number(flag: bool) -> u64
-    ensures { result ≡ flag_number flag }
-{
-    if flag {
-        return 1;
-    }
-    0
 }
 
 #[derive(Clone, Copy)]
@@ -259,41 +226,34 @@ pub struct FillRec {
     pub qty: u64,
 }
 
-#[derive(Clone, Copy)]
-pub enum MaybeFill {
-    None,
-    Some(FillRec),
-}
-
 // A report on its way to the agent, with the fill's record if it came from a match.
 #[derive(Clone, Copy)]
 pub struct Delivery {
     pub at_ns: u64,
     pub report: ReportRec,
-    pub fill: MaybeFill,
+    pub fill: Option<FillRec>,
 }
 
-impl Delivery {
-    pub fn blank() -> Self
-        ensures { result ≡ blank_delivery }
-    {
-        let report = ReportRec {
-            ts_ns: 0,
-            seq: 0,
-            order_id: 0,
-            side: Side::Buy,
-            kind: ExecKind::Accepted,
-            origin: Origin::Local,
-            cancel_pending: false,
-            price: 0,
-            qty: 0,
-            last: 0,
-            cum: 0,
-        };
+impl Blank for Delivery {
+    ghost blank = { blank_delivery };
+
+    fn blank() -> Self {
         Delivery {
             at_ns: 0,
-            report,
-            fill: MaybeFill::None,
+            report: ReportRec {
+                ts_ns: 0,
+                seq: 0,
+                order_id: 0,
+                side: Side::Buy,
+                kind: ExecKind::Accepted,
+                origin: Origin::Local,
+                cancel_pending: false,
+                price: 0,
+                qty: 0,
+                last: 0,
+                cum: 0,
+            },
+            fill: None,
         }
     }
 }
@@ -305,10 +265,10 @@ pub struct ObsEntry {
     pub row: u64,
 }
 
-impl ObsEntry {
-    pub fn blank() -> Self
-        ensures { result ≡ blank_obs }
-    {
+impl Blank for ObsEntry {
+    ghost blank = { blank_obs };
+
+    fn blank() -> Self {
         ObsEntry {
             ready_ns: 0,
             row: 0,
@@ -323,20 +283,13 @@ pub struct OpenOrder {
     pub awaiting_cancel_outcome: bool,
 }
 
-impl OpenOrder {
-    pub fn blank() -> Self
-        ensures { result ≡ blank_open }
-    {
+impl Blank for OpenOrder {
+    ghost blank = { blank_open };
+
+    fn blank() -> Self {
         OpenOrder {
             order_id: 0,
             awaiting_cancel_outcome: false,
         }
     }
-}
-
-// What a search answers: a place, or none.
-#[derive(Clone, Copy)]
-pub enum Found {
-    None,
-    At(usize),
 }

@@ -2,64 +2,39 @@
 // It is a tool: its functions are safe and end, and nothing is claimed of what it reads and writes.
 #![tactic(auto)]
 
-mod calls;
-mod case;
-mod desk;
+mod cases;
 mod entries;
-mod format;
-mod input;
-mod output;
-mod pieces;
+mod outcomes;
+mod reader;
+mod records;
+mod states;
 
-use calls::{Log, run_case};
-use case::read_case;
-use desk::{Desk, RAN, SIZE, set};
-use format::{BAD_LINE, pass_at};
-use input::{END, Text, step};
-use output::flush;
+use cases::read_case;
+use outcomes::{LOG_WORDS, write_outcome};
+use reader::{Lines, ReadError};
+use std::io::{self, BufReader, BufWriter, Write};
 
-// Reads a case and runs it. From a bad line on the text is not read.
-fn one_case(d: &mut Desk, text: Text, log: &mut Log) -> Text {
-    let mut t = read_case(d, text);
-    t.writes = true;
-    if t.bad {
-        set(d, RAN, 0, t.line);
-        return pass_at(d, t, RAN, BAD_LINE);
-    }
-    t = run_case(d, t, log);
-    t.writes = false;
-    t
-}
-
-// A proved loop has to end, and nothing says that the text does, so the turns are counted, to a number that no text reaches.
-fn all_cases(d: &mut Desk, text: Text, log: &mut Log) -> Text {
-    let mut t = text;
+// From a bad line on the text is not read. A proved loop has to end, and nothing says that the text does, so the cases are counted, to a number that no text reaches.
+fn run(rt: HostRuntime) -> io::Result<()> {
+    let alloc = rt.alloc();
+    let mut lines = Lines::new(alloc, BufReader::new(alloc, rt.stdin())?);
+    let mut out = BufWriter::new(alloc, rt.stdout())?;
+    let mut log = vec![in alloc; 0u64; LOG_WORDS]?;
     for _ in 0..u64::MAX {
-        if t.bad || t.byte == END {
-            break;
+        match read_case(&mut lines, alloc) {
+            Ok(None) => break,
+            Ok(Some(case)) => write_outcome(&case, &mut log, &mut out)?,
+            Err(ReadError::Io(_)) => break,
+            Err(ReadError::BadLine(number)) => {
+                writeln!(out, "bad {number}")?;
+                break;
+            }
         }
-        t = one_case(d, t, log);
     }
-    t
+    out.flush()
 }
 
+// A case that memory does not hold ends the text, and what cannot be written is lost.
 fn main(rt: HostRuntime) {
-    let mut d = [0u64; SIZE];
-    let mut log = [0u64; 24576];
-    let start = Text {
-        input: rt.stdin(),
-        output: rt.stdout(),
-        byte: 0,
-        line: 1,
-        at: 0,
-        upto: 0,
-        bad: false,
-        length: 0,
-        writes: false,
-        cell: 0,
-        unused: false,
-    };
-    let first = step(&mut d, start);
-    let last = all_cases(&mut d, first, &mut log);
-    flush(&d, last);
+    let _ = run(rt);
 }

@@ -9,7 +9,7 @@ use lib.ListN.{length, take, drop, length-append, length-drop}
 use lib.Seq.{take_at, drop_at, take-length, take-append-add}
 use borrow.Author.Tests.{lt-ltb, le-ltb, ltb-true, ltb-false, leb-true}
 use Rattle.numbers.specs.Choice.{pick}
-use Rattle.lists.proofs.Cases.{pick_case}
+use Rattle.lists.proofs.Cases.{pick_case, true_false}
 use Rattle.state.specs.Numbers.{is_terminal_phase}
 use Rattle.book.specs.declared.config.Config.{Config}
 use Rattle.state.specs.declared.KernelEvent.{KernelEvent}
@@ -17,16 +17,23 @@ use Rattle.state.specs.declared.KernelState.{KernelState}
 use Rattle.state.specs.declared.Phase.{Phase}
 use Rattle.state.specs.declared.Phase.TheVariants.{BeforeMatch, ObsQueued, AwaitDecision, Terminal}
 use Rattle.rules.specs.Log.{event_words, written}
-use Rattle.rules.specs.Calls.{Did, refused, stays, halts, ends, Answer, advance, pass, is_paused, refusal_of}
+use Rattle.rules.specs.Calls.{Did, refused, stays, halts, ends, Answer, advance, pass, counts_fit, is_paused, refusal_of}
 use Rattle.rules.specs.Batch as batch
 use Rattle.rules.proofs.Cases.{both}
 use Rattle.reports.proofs.Append.{twelve}
-use Rattle.entry.proofs.EntryExits.{pass_waits}
 use Rattle.text.specs.Bytes.{bytes}
 use Rattle.logline.specs.Record.{event_line}
 use Rattle.lines.specs.Print.{printed, records_of, call_text, filled_lots, filled_from, filled_after}
 use Rattle.day.specs.EveryEvent.{lines_of}
 use Rattle.day.specs.Replay.{empty_log, has_more, passed_on, last_of, turns_from}
+
+-- what does not wait is not passed
+pass_waits : (s : KernelState) → is_paused s.control.phase ≡ false → batch.is_stay (pass s).did ≡ false
+unfolding pass
+pass_waits s h =
+    pick_case (λ (a : Answer). batch.is_stay a.did ≡ false) (counts_fit s) _ _
+    (λ _. pick_case (λ (a : Answer). batch.is_stay a.did ≡ false) (is_paused s.control.phase) _ _ (λ p. true_false (sym p ∙ h)) (λ _. refl))
+    (λ _. refl)
 
 -- ---- the lines of events and the lots that their reports fill, whatever log they stand in
 unfoldable pub sum_of : ℕ → List KernelEvent → ℕ

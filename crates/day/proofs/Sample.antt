@@ -1,9 +1,9 @@
 -- What `replay` prints, joined from the text to the last line: document 01's sample, whole, and texts with a bad line. Assumes nothing.
+use Rattle.std.specs.Prelude.{Some}
 use Prim.Native.Nat.{ℕ, suc, ◌<◌}
 use mathlib.Core.List.{List}
 use mathlib.Core.Path.{◌≡◌, refl}
 use lib.ListN.{length, replicate}
-use Rattle.numbers.specs.declared.MaybeU64.TheVariants.{Some}
 use Rattle.rules.specs.Log.{event_words, written}
 use Rattle.rules.proofs.Sample as rules
 use Rattle.text.specs.Bytes.{bytes}
@@ -21,7 +21,7 @@ unfolding unless_bad replayed
 sample n = rw runtext.sample (unfold rules.third event_words written digits decimal signed all kind_name report_line fill_line short_line one_line line_on event_line printed call_text filled_lots filled_from filled_after last_line has_more passed_on turns_from in refl)
 
 -- "The first bad line .. prints `bad N` .. and nothing else."
-pub bad_line_lem : (n line : ℕ) (text : List ℕ) → (read_text text (replicate 2560 0)).script.bad ≡ Some line → replayed n text ≡ bad_line line
+pub bad_line_lem : (n line : ℕ) (text : List ℕ) → (read_text text (replicate 2560 0)).bad ≡ Some line → replayed n text ≡ bad_line line
 unfolding unless_bad replayed
 bad_line_lem n line text h = rw h
 

@@ -2,21 +2,23 @@
 use Prim.Native.Nat.{ℕ, ◌+◌, ◌*◌, ◌/◌, ◌≤◌, ◌<◌}
 use mathlib.Core.Bool.{Bool, true, false}
 use mathlib.Core.List.{List, [], ◌++◌}
-use mathlib.Core.Path.{◌≡◌, sym, ap, ◌∙◌}
+use mathlib.Core.Path.{◌≡◌, refl, sym, ap, ◌∙◌}
 use native.Mathlib.Omega.{arith}
 use lib.Dec.{eqb}
 use lib.ListN.{length, take, drop, get_or}
 use lib.Seq.{take-append_seam}
+use Rattle.std.specs.Prelude.{Result, Ok, Err, is_ok}
 use Rattle.numbers.specs.Choice.{pick}
 use Rattle.state.specs.Numbers.{is_terminal_phase}
 use Rattle.book.specs.declared.config.Config.{Config}
 use Rattle.state.specs.declared.KernelState.{KernelState}
+use Rattle.state.specs.declared.Refusal.{Refusal}
+use Rattle.state.specs.declared.Refusal.TheVariants.{RowWords, ListCount, NotPaused, NoResume, StepLimit}
 use Rattle.rules.specs.Calls as calls
 use Rattle.rules.specs.Batch.{BatchResult, run, returned_run}
-use Rattle.entry.specs.Entry.{answer_number}
+use Rattle.entry.specs.Entry.{answer_number, passed}
 use Rattle.batch.specs.Batch.{actual_run}
 use Rattle.batch.specs.declared.Advanced.{Advanced}
-use Rattle.kernel.specs.Calls.{actual_pass}
 use Rattle.kernel.specs.declared.Passed.{Passed}
 use Rattle.write.specs.Write.{Text, text_at, texted}
 use Rattle.lines.specs.Print.{call_text, filled_after}
@@ -64,7 +66,17 @@ module _ (c : Config) (rows : List ℕ) (s : KernelState) (filled : ℕ) (log ou
     unfolding has_more passed_on pick
     ends z = rw (whole, ← i, z)
 
-    pub goes_on_lem : k ≡ false → (p : Passed) → actual_pass p ≡ calls.returned [] (calls.pass a.state) → (j : ℕ) → j ≡ answer_number p.answer
-        → actual_turns (record { more = eqb j 0; state = p.state; filled = m; length = n }) w v ≡ turned c rows s filled log out
+    -- a pass that is not refused is answered by 0
+    ran_by : (r : Result (Unit {0}) Refusal) → is_ok r ≡ eqb (answer_number r) 0
+    ran_by (Ok v) = refl
+    ran_by (Err RowWords) = refl
+    ran_by (Err ListCount) = refl
+    ran_by (Err NotPaused) = refl
+    ran_by (Err NoResume) = refl
+    ran_by (Err StepLimit) = refl
+
+    pub goes_on_lem : k ≡ false → (p : Passed) → passed p.answer p.state ≡ calls.returned [] (calls.pass a.state)
+        → (o : Bool) → o ≡ is_ok p.answer
+        → actual_turns (record { more = o; state = p.state; filled = m; length = n }) w v ≡ turned c rows s filled log out
     unfolding has_more passed_on pick
-    goes_on_lem z p q j r = rw (whole, ← i, z, r, ap (λ (x : calls.Result). x.answer) q, ap (λ (x : calls.Result). x.state) q)
+    goes_on_lem z p q o r = rw (whole, ← i, z, r, ran_by p.answer, ap (λ (x : calls.Result). x.answer) q, ap (λ (x : calls.Result). x.state) q)

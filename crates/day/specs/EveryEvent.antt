@@ -1,7 +1,6 @@
 -- Every event of a replay is printed, and no `cut`: what is claimed of every good run text. The proof is proofs/EveryEvent.antt.
-use Rattle.std.specs.Prelude.{ℕ, zero, suc, ◌*◌, List, [], ◌∷◌, ◌++◌, ◌≡◌, take, replicate}
+use Rattle.std.specs.Prelude.{ℕ, zero, suc, ◌*◌, List, [], ◌∷◌, ◌++◌, ◌≡◌, take, replicate, None}
 use Rattle.numbers.specs.Choice.{pick}
-use Rattle.numbers.specs.declared.MaybeU64.TheVariants.{None}
 use Rattle.book.specs.declared.config.Config.{Config}
 use Rattle.state.specs.declared.KernelEvent.{KernelEvent}
 use Rattle.state.specs.declared.KernelState.{KernelState}
@@ -27,5 +26,5 @@ raised_events (suc n) c rows s =
 abbrev pub EveryEvent : ℕ → List ℕ → Type 0
 EveryEvent turns text =
     let r : Read = read_text text (replicate 2560 0) in
-    r.script.bad ≡ None
+    r.bad ≡ None
     → (end : KernelState) × (filled : ℕ) × (replayed turns text ≡ lines_of (raised_events turns r.script.cfg (take (r.script.rows * 5) r.words) r.script.state) ++ last_of end filled)

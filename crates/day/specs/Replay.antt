@@ -1,8 +1,6 @@
 -- What `replay` prints of a run text, from its first line to the last, by document 01: one call at a time.
-use Rattle.std.specs.Prelude.{ℕ, zero, suc, ◌*◌, Bool, false, List, ◌++◌, eqb, take, replicate}
+use Rattle.std.specs.Prelude.{ℕ, zero, suc, ◌*◌, Bool, false, List, ◌++◌, eqb, take, replicate, Option, Some, None}
 use Rattle.numbers.specs.Choice.{pick}
-use Rattle.numbers.specs.declared.MaybeU64.{MaybeU64}
-use Rattle.numbers.specs.declared.MaybeU64.TheVariants.{None, Some}
 use Rattle.state.specs.Numbers.{is_terminal_phase}
 use Rattle.book.specs.declared.config.Config.{Config}
 use Rattle.state.specs.declared.KernelState.{KernelState}
@@ -35,7 +33,7 @@ turns_from (suc n) c rows s filled =
     call_text a.log a.count a.count ++ pick (has_more a.state) (turns_from n c rows (passed_on a.state) sum) (last_of (passed_on a.state) sum)
 
 -- "prints `bad N` .. and nothing else"
-unfoldable pub unless_bad : MaybeU64 → List ℕ → List ℕ
+unfoldable pub unless_bad : Option ℕ → List ℕ → List ℕ
 unless_bad None run = run
 unless_bad (Some n) run = bad_line n
 
@@ -43,4 +41,4 @@ unless_bad (Some n) run = bad_line n
 unfoldable pub replayed : ℕ → List ℕ → List ℕ
 replayed turns text =
     let r : Read = read_text text (replicate 2560 0) in
-    unless_bad r.script.bad (turns_from turns r.script.cfg (take (r.script.rows * 5) r.words) r.script.state 0)
+    unless_bad r.bad (turns_from turns r.script.cfg (take (r.script.rows * 5) r.words) r.script.state 0)

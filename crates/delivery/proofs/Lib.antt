@@ -1,1 +1,1 @@
-pub mod DeliveryExits
+pub mod Deliveries

@@ -3,43 +3,30 @@
 
 ghost use Rattle.std.specs.Prelude.{[], ◌≡◌};
 ghost use Rattle.rules.specs.Calls.{advance, pass, returned};
-ghost use Rattle.kernel.specs.Calls.{actual_advance, actual_pass};
+ghost use Rattle.entry.specs.Entry.{passed};
+ghost use Rattle.kernel.specs.Calls.{actual_advance};
 
 use batch::{Advanced, run};
 use book::config::Config;
-use entry::{Answer, Counts, counts_fit, pass_control};
-use state::KernelState;
+use state::{KernelState, Refusal};
 
 // Runs until the next decision or the end of the run.
-pub fn advance(cfg: Config, rows: &[u64], state: KernelState, log: &mut [u64]) -> Advanced
-    ensures { (actual_advance result log.new ≡ returned log.old (advance cfg rows.now state)) × (result.last ≡ result.events) }
+pub fn advance(cfg: &Config, rows: &[u64], state: KernelState, log: &mut [u64]) -> Advanced
+    ensures { (actual_advance result log.new ≡ returned log.old (advance cfg.now rows.now state)) × (result.last ≡ result.events) }
 {
     run(cfg, rows, state, log, 0)
 }
 
 #[derive(Clone, Copy)]
 pub struct Passed {
-    pub answer: Answer,
+    pub answer: Result<(), Refusal>,
     pub state: KernelState,
 }
 
 // No action at a pause.
-pub fn pass(state: KernelState) -> Passed
-    ensures { actual_pass result ≡ returned [] (pass state) }
+pub fn pass(mut state: KernelState) -> Passed
+    ensures { passed result.answer result.state ≡ returned [] (pass state) }
 {
-    let fits = counts_fit(Counts {
-        orders: state.orders.count,
-        msgs: state.msgs.count,
-        awaiting: state.awaiting.count,
-        deliveries: state.deliveries.count,
-        observed: state.observed.count,
-        account: state.account.count,
-    });
-    let c = state.control;
-    let to = pass_control(fits, c);
-    let answer = to.answer;
-    let control = to.control;
-    let mut s = state;
-    s.control = control;
-    Passed { answer, state: s }
+    let answer = entry::pass(&mut state);
+    Passed { answer, state }
 }

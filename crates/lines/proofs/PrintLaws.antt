@@ -1,99 +1,65 @@
--- The lines of a log written one by one. Assumes nothing.
-use Prim.Native.Nat.{ℕ, suc, ◌+◌, ◌-◌, ◌*◌, ◌≤◌, ◌<◌, min}
-use mathlib.Core.Bool.{Bool, true, false, ◌||◌}
-use mathlib.Core.Path.{◌≡◌, refl, sym, ap, ◌∙◌}
-use mathlib.Core.List.{List, ◌++◌}
+-- The records of a log, one behind the other: what they print, and what they fill. Assumes nothing.
+use Rattle.std.specs.List.{flat_map, fold}
+use Rattle.std.specs.Simd.{first_chunks}
+use Rattle.std.proofs.lemmas.List.{take_more}
+use Rattle.std.proofs.lemmas.List.Concat.{flat_map-append}
+use Prim.Native.Nat.{ℕ, zero, suc, ◌+◌, ◌/◌, ◌≤◌, ◌<◌, min}
+use mathlib.Core.Path.{◌≡◌, refl, ap, ◌∙◌}
+use mathlib.Core.List.{List, [], ◌++◌, map, append-nil}
+use native.Mathlib.Nat.{not-suc-le-zero, le_of_suc-le-suc}
 use native.Mathlib.Omega.{arith}
-use lib.Dec.{eqb}
-use lib.ListN.{take, drop}
-use lib.Seq.{drop-drop}
-use borrow.Author.Tests.{lt-ltb, le-ltb, eq-eqb, ne_eqb, eqb-false}
+use lib.ListN.{length, take, drop, get_or, length-take}
+use lib.Seq.{take_all}
+use borrow.Author.Tests.{lt-ltb, le-ltb}
 use Rattle.numbers.specs.Choice.{pick}
 use Rattle.text.specs.Bytes.{bytes}
-use Rattle.write.specs.Write.{Text, texted}
-use Rattle.logline.specs.Record.{word, event_line}
+use Rattle.write.specs.declared.Writer.{Writer}
+use Rattle.write.specs.Write.{written}
+use Rattle.write.proofs.WriteLaws.{written_append}
+use Rattle.logline.specs.Record.{event_line}
 use Rattle.lines.specs.Print.{printed, records_of, call_text, filled_lots, filled_from, filled_after}
-use Rattle.write.proofs.WriteLaws.{texted-append}
 
--- ---- the lots of a record of kind n
-module _ (w : List ℕ) (n : ℕ) (e : n ≡ word w 0) where
-  pub no_report : (n ≡ 1 → ⊥) → 0 ≡ filled_lots w
-  unfolding filled_lots pick
-  no_report h = rw (← e, ne_eqb n 1 h)
+length-chunks : (k n : ℕ) (log : List ℕ) → length (first_chunks k n log) ≡ n
+length-chunks k zero log = refl
+length-chunks k (suc n) log = ap suc (length-chunks k n (drop k log))
 
-  -- a report of kind k
-  module _ (h : n ≡ 1) (k : ℕ) (f : k ≡ word w 5) where
-    is_trade : 4 ≤ k → k < 6 → eqb k 4 || eqb k 5 ≡ true
-    is_trade lo hi = go (eqb k 4) refl
-      where
-        go : (b : Bool) → eqb k 4 ≡ b → b || eqb k 5 ≡ true
-        go true g = refl
-        go false g = eq-eqb k 5 (omega (arith, eqb-false k 4 g))
+lines_printed : (n m : ℕ) (log : List ℕ) → n ≤ m → flat_map event_line (take n (first_chunks 12 m log)) ≡ printed n log
+unfolding printed
+lines_printed zero m log h = refl
+lines_printed (suc n) zero log h = absurd (not-suc-le-zero h)
+lines_printed (suc n) (suc m) log h = ap (λ (l : List ℕ). event_line (take 12 log) ++ l) (lines_printed n m (drop 12 log) (le_of_suc-le-suc h))
 
-    pub trade_lots_lem : (m : ℕ) → m ≡ word w 10 → 4 ≤ k → k < 6 → m ≡ filled_lots w
-    unfolding filled_lots pick
-    trade_lots_lem m g lo hi = g ∙ rw (← e, eq-eqb n 1 h, ← f, is_trade lo hi)
+sum_filled : (n m s : ℕ) (log : List ℕ) → n ≤ m → fold (λ s lots. min (s + lots) 18446744073709551615) s (map filled_lots (take n (first_chunks 12 m log))) ≡ filled_from s n log
+unfolding filled_from
+sum_filled zero m s log h = refl
+sum_filled (suc n) zero s log h = absurd (not-suc-le-zero h)
+sum_filled (suc n) (suc m) s log h = sum_filled n m (min (s + filled_lots (take 12 log)) 18446744073709551615) (drop 12 log) (le_of_suc-le-suc h)
 
-    pub no_trade : (k ≡ 4 → ⊥) → (k ≡ 5 → ⊥) → 0 ≡ filled_lots w
-    unfolding filled_lots pick
-    no_trade p q = rw (← e, eq-eqb n 1 h, ← f, ne_eqb k 4 p, ne_eqb k 5 q)
-
--- ---- the records of a log from place i on, of n
-module _ (log : List ℕ) (n i : ℕ) where
-  next : drop 12 (drop (i * 12) log) ≡ drop ((i + 1) * 12) log
-  next =
-      let z : i * 12 + 12 ≡ (i + 1) * 12 = omega arith in
-      rw (drop-drop, z)
-
-  module _ (h : i < n) where
-    one_more : n - i ≡ suc (n - (i + 1))
-    one_more = omega arith
-
-    printed-more : printed (n - i) (drop (i * 12) log) ≡ event_line (take 12 (drop (i * 12) log)) ++ printed (n - (i + 1)) (drop ((i + 1) * 12) log)
-    unfolding printed
-    printed-more = rw (one_more, next)
-
-    pub call-turn : (t u v : Text) (w : ℕ) → w ≡ 12 → u ≡ texted v (event_line (take w (drop (i * 12) log))) → t ≡ texted v (printed (n - i) (drop (i * 12) log))
-        → t ≡ texted u (printed (n - (i + 1)) (drop ((i + 1) * 12) log))
-    call-turn t u v w z e f = f ∙ rw (printed-more, texted-append, e, z)
-
-    pub sum_turn : (s u a : ℕ) (w q : ℕ) → w ≡ 12 → q ≡ filled_lots (take w (drop (i * 12) log)) → u ≡ min (s + q) 18446744073709551615
-        → a ≡ filled_from s (n - i) (drop (i * 12) log) → a ≡ filled_from u (n - (i + 1)) (drop ((i + 1) * 12) log)
-    unfolding filled_from
-    sum_turn s u a w q z k e f = f ∙ rw (one_more, e, k, z) (ap (λ (l : List ℕ). filled_from (min (s + filled_lots (take 12 (drop (i * 12) log))) 18446744073709551615) (n - (i + 1)) l) next)
-
-  module _ (h : n ≤ i) where
-    none_left : n - i ≡ 0
-    none_left = omega arith
-
-    pub call_end : (t v : Text) → t ≡ texted v (printed (n - i) (drop (i * 12) log)) → v ≡ t
-    unfolding printed texted
-    call_end t v f = sym (rw none_left at f)
-
-    pub sum_end : (s a : ℕ) → a ≡ filled_from s (n - i) (drop (i * 12) log) → s ≡ a
-    unfolding filled_from
-    sum_end s a f = sym (rw none_left at f)
-
-pub call_begin : (log : List ℕ) (n : ℕ) (t : Text) → texted t (printed n log) ≡ texted t (printed (n - 0) (drop (0 * 12) log))
-call_begin log n t =
-    let z : n - 0 ≡ n = omega arith in
-    rw z
-
-pub sum_begin : (log : List ℕ) (n s : ℕ) → filled_from s n log ≡ filled_from s (n - 0) (drop (0 * 12) log)
-sum_begin log n s =
-    let z : n - 0 ≡ n = omega arith in
-    rw z
-
--- ---- a call's text, with `cut` and without
-module _ (log : List ℕ) (events last n : ℕ) (e : n ≡ records_of log events last) (t v : Text) (f : v ≡ texted t (printed n log)) where
-  pub call_cut : (u : Text) → n < events → u ≡ texted v (bytes "cut\n") → u ≡ texted t (call_text log events last)
-  unfolding call_text pick
-  call_cut u h g = rw (← e, lt-ltb n events h, texted-append, ← f) g
-
-  pub call-whole : events ≤ n → v ≡ texted t (call_text log events last)
-  unfolding call_text pick texted
-  call-whole h = rw (← e, le-ltb n events h, texted-append, ← f)
-
-pub sum_whole : (log : List ℕ) (sum events last n s : ℕ) → n ≡ records_of log events last → s ≡ filled_from sum n log → s ≡ filled_after sum log events last
+pub sum_printed : (s events last : ℕ) (log : List ℕ)
+    → fold (λ s lots. min (s + lots) 18446744073709551615) s (map filled_lots (take (records_of log events last) (first_chunks 12 (length log / 12) log))) ≡ filled_after s log events last
 unfolding filled_after
-sum_whole log sum events last n s e f = rw (← e) f
+sum_printed s events last log = sum_filled (records_of log events last) (length log / 12) s log (omega arith)
+
+-- ---- records written line by line
+module _ (t u : Writer) (rs : List (List ℕ)) (i : ℕ) (e : u ≡ written t (flat_map event_line (take i rs))) where
+  pub lines_more : (v : Writer) → i < length rs → v ≡ written u (event_line (get_or rs i [])) → v ≡ written t (flat_map event_line (take (i + 1) rs))
+  lines_more v h f = rw (f, e, take_more rs i [] h, flat_map-append, append-nil) (written_append t (flat_map event_line (take i rs)) (event_line (get_or rs i [])))
+
+  pub lines_all : length rs ≤ i → u ≡ written t (flat_map event_line rs)
+  lines_all h = rw (take_all i rs h) at e
+
+-- ---- a call's lines, with `cut` and without
+module _ (log : List ℕ) (events last : ℕ) (rs : List (List ℕ)) (e : rs ≡ take (records_of log events last) (first_chunks 12 (length log / 12) log)) (t u : Writer) (f : u ≡ written t (flat_map event_line rs)) where
+  count : length rs ≡ records_of log events last
+  count = rw (e, length-take, length-chunks) (omega arith)
+
+  lines : u ≡ written t (printed (records_of log events last) log)
+  lines = f ∙ ap (written t) (rw e (lines_printed (records_of log events last) (length log / 12) log (omega arith)))
+
+  pub call_cut : (v : Writer) → length rs < events → v ≡ written u (bytes "cut\n") → v ≡ written t (call_text log events last)
+  unfolding call_text pick
+  call_cut v h g = rw (lt-ltb (records_of log events last) events (rw count at h)) (g ∙ rw lines (written_append t (printed (records_of log events last) log) (bytes "cut\n")))
+
+  pub call_whole : events ≤ length rs → u ≡ written t (call_text log events last)
+  unfolding call_text pick
+  call_whole h = rw (le-ltb (records_of log events last) events (rw count at h), append-nil) lines

@@ -9,7 +9,8 @@ use lib.ListN.{length, take, drop, get_or, length-append}
 use Rattle.numbers.specs.Choice.{pick}
 use Rattle.text.specs.Bytes.{bytes}
 use Rattle.write.specs.Write.{text_at, texted, decimal}
-use Rattle.write.proofs.Whole.{texted-whole, word-most}
+use Rattle.write.proofs.Whole.{word-most}
+use Rattle.write.proofs.WriteLaws.{texted-whole}
 use Rattle.logline.specs.Record.{word, all, kind_name, report_line, fill_line, short_line, one_line, line_on, event_line}
 use Rattle.lines.specs.Print.{printed, records_of, call_text}
 

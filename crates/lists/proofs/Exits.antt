@@ -1,17 +1,33 @@
 -- What the code of an operation answers on each way out is what the operation of `Lists` answers, of any kind of entry. Assumes nothing.
+use Rattle.std.specs.Prelude.{Option, Some, None, Err}
 use Prim.Native.Nat.{ℕ, ◌+◌, ◌-◌, ◌≤◌, ◌<◌}
 use mathlib.Core.Bool.{Bool, true, false}
-use mathlib.Core.Option.{none, some}
-use mathlib.Core.Path.{◌≡◌}
-use mathlib.Core.List.{List}
+use mathlib.Core.Path.{◌≡◌, refl, sym, ap, ◌∙◌}
+use mathlib.Core.List.{List, [], ◌++◌, append-nil}
 use native.Mathlib.Omega.{arith}
-use lib.ListN.{length, get_or, set}
-use borrow.Author.Tests.{lt-ltb, le-ltb, le-leb, lt-leb}
+use lib.Dec.{ltb, leb}
+use lib.ListN.{length, take, drop, get_or, set, drop_of_length-le}
+use lib.Seq.{get_or-take, length-take-le}
+use borrow.Author.Tests.{lt-ltb, le-ltb, le-leb, lt-leb, ltb-true, ltb-false, leb-true}
+use Rattle.std.specs.Borrow.{Bor}
+use Rattle.std.specs.List.{slice_get}
+use Rattle.std.specs.Option.{option_copied, unwrap_or}
+use Rattle.std.specs.Slice.{IsItemAt}
+use Rattle.std.proofs.lemmas.Option.{slice_get-get_or, slice_get_past, slice_get_read}
 use Rattle.numbers.specs.Choice.{pick}
-use Rattle.lists.specs.Lists.{Row, before, found_in, live, placed, without, put_at, taken_at, entry_at, store_at, emptied}
-use Rattle.lists.proofs.Loops.{Inserting, insert_done, Removing, remove_done, Emptying, empty_done, Searching, search_hit, search_end, found_hit, found_none, before-nil, found-nil, push_slots}
+use Rattle.lists.specs.Lists.{Put, Taken, put_of, taken_of, found_in, below, live, placed, without, put_at, put_before, taken_at, entry_at, store_at, emptied}
+use Rattle.lists.proofs.Cases.{pick_case, pick_both, some_none, true_false}
+use Rattle.lists.proofs.Loops.{Inserting, insert_done, Removing, remove_done, Emptying, empty_done, push_slots, found_or_end}
+use Rattle.lists.proofs.Totals.{live_below}
+use Rattle.lists.specs.declared.Arr.{Arr}
+use Rattle.lists.specs.declared.Full.{Full}
 
-module _ {A : Type 0} (cap : ℕ) (r : Row A) where
+-- what a slice lends at a place is what stands there
+item_value : {A : Type 0} (l : List A) (p : ℕ) (o : Option (Bor A)) → IsItemAt l p o → option_copied o ≡ slice_get l p
+item_value l p None h = sym (slice_get_past l p h.3)
+item_value l p (Some x) h = sym (slice_get_read l (length l) p x.now refl h.3.0 h.1)
+
+module _ {A : Type 0} {n : ℕ} (cap : ℕ) (r : Arr A n) where
   -- ---- an entry goes in: the list is full, the place is past the end, the loop is done
   pub put_full : (p : ℕ) (v : A) → cap ≤ r.count → record { ok = false; list = r } ≡ put_at cap p v r
   unfolding put_at pick
@@ -27,37 +43,53 @@ module _ {A : Type 0} (cap : ℕ) (r : Row A) where
   put_in h k I = simp (lt-ltb _ _ h, le-leb _ _ I.place, insert_done k I)
 
   -- behind the last it is one store
-  pub push_in : (v : A) → r.count < cap → length r.slots ≡ cap
-      → record { ok = true; list = record { slots = set r.slots r.count v; count = r.count + 1 } } ≡ put_at cap r.count v r
+  pub push_in : (v : A) → r.count < cap → length r.slots ≡ cap → record { ok = true; list = record { slots = set r.slots r.count v; count = r.count + 1 } } ≡ put_at cap r.count v r
   unfolding put_at placed pick
   push_in v h k = simp (lt-ltb _ _ h, le-leb r.count r.count (omega arith), push_slots r.count v r.slots (omega arith))
 
-  -- ---- an entry comes out: the count is above the capacity, there is no such place, the loop is done and b, a blank, is stored
-  pub take-over : (d : A) (p : ℕ) → cap < r.count → record { got = none; list = r } ≡ taken_at cap d p r
-  unfolding taken_at pick
-  take-over d p h = simp (lt-leb _ _ h)
+  -- ---- the entry at a place: what stands there among the live
+  entry_live : (d : A) (p : ℕ) → cap ≤ length r.slots → slice_get (live cap r) p ≡ entry_at cap d p r
+  unfolding live entry_at pick
+  entry_live d p k = go (leb r.count cap) (ltb p r.count) refl refl
+    where
+      go : (a b : Bool) → leb r.count cap ≡ a → ltb p r.count ≡ b → slice_get (pick a (below r) []) p ≡ pick a (pick b (Some (get_or r.slots p d)) None) None
+      go true true e f =
+          let w : p < r.count = ltb-true _ _ f in
+          let m : r.count ≤ length r.slots = omega (arith, leb-true _ _ e) in
+          slice_get-get_or (below r) p d (rw (length-take-le r.count r.slots m) w) ∙ rw (get_or-take r.count r.slots p d w)
+      go true false e f = let m : r.count ≤ length r.slots = omega (arith, leb-true _ _ e) in slice_get_past (below r) p (rw (length-take-le r.count r.slots m) (ltb-false _ _ f))
+      go false b e f = refl
 
-  pub take_past : (d : A) (p : ℕ) → r.count ≤ cap → r.count ≤ p → record { got = none; list = r } ≡ taken_at cap d p r
-  unfolding taken_at pick
-  take_past d p h k = simp (le-leb _ _ h, le-ltb _ _ k)
+  pub entry_read : (d : A) (p : ℕ) {l : List A} (o : Option (Bor A)) → cap ≤ length r.slots → l ≡ live cap r → IsItemAt l p o → option_copied o ≡ entry_at cap d p r
+  entry_read d p {l} o k e h = item_value l p o h ∙ rw e (entry_live d p k)
 
-  pub take_in : {d b : A} {p i : ℕ} {l : List A} → r.count ≤ cap → b ≡ d → r.count - 1 ≤ i → Removing d p r.count r.slots i l
-      → record { got = some (get_or r.slots p d); list = record { slots = set l (r.count - 1) b; count = r.count - 1 } } ≡ taken_at cap d p r
-  unfolding taken_at without pick
-  take_in h e k R = simp (le-leb _ _ h, lt-ltb _ _ R.place, e, remove_done k R)
-
-  -- ---- the entry at a place
-  pub entry_over : (d : A) (p : ℕ) → cap < r.count → none ≡ entry_at cap d p r
+  pub entry_over : (d : A) (p : ℕ) → cap < r.count → None ≡ entry_at cap d p r
   unfolding entry_at pick
   entry_over d p h = simp (lt-leb _ _ h)
 
-  pub entry_past : (d : A) (p : ℕ) → r.count ≤ cap → r.count ≤ p → none ≡ entry_at cap d p r
-  unfolding entry_at pick
-  entry_past d p h k = simp (le-leb _ _ h, le-ltb _ _ k)
-
-  pub entry_in : (d : A) (p : ℕ) → r.count ≤ cap → p < r.count → some (get_or r.slots p d) ≡ entry_at cap d p r
+  pub entry_in : (d : A) (p : ℕ) → r.count ≤ cap → p < r.count → Some (get_or r.slots p d) ≡ entry_at cap d p r
   unfolding entry_at pick
   entry_in d p h k = simp (le-leb _ _ h, lt-ltb _ _ k)
+
+  pub entry_tells : (d x : A) (p : ℕ) → Some x ≡ entry_at cap d p r → (r.count ≤ cap) × (p < r.count) × (x ≡ get_or r.slots p d)
+  unfolding entry_at
+  entry_tells d x p =
+      pick_case (λ o. Some x ≡ o → (r.count ≤ cap) × (p < r.count) × (x ≡ get_or r.slots p d)) (leb r.count cap) _ _
+      (λ e. pick_case (λ o. Some x ≡ o → (r.count ≤ cap) × (p < r.count) × (x ≡ get_or r.slots p d)) (ltb p r.count) _ _ (λ f q. (leb-true _ _ e, ltb-true _ _ f, cc)) (λ _ q. some_none q))
+      (λ _ q. some_none q)
+
+  -- ---- an entry comes out: there is none, or the loop is done and b, a blank, is stored
+  pub take_none : (d : A) (p : ℕ) → None ≡ entry_at cap d p r → taken_of None r ≡ taken_at cap d p r
+  unfolding taken_at entry_at
+  take_none d p =
+      pick_both (λ (o : Option A) (t : Taken A n). None ≡ o → taken_of None r ≡ t) (leb r.count cap) _ _ _ _
+      (λ _. pick_both (λ (o : Option A) (t : Taken A n). None ≡ o → taken_of None r ≡ t) (ltb p r.count) _ _ _ _ (λ _ q. some_none (sym q)) (λ _ _. refl))
+      (λ _ _. refl)
+
+  pub take_in : {d b : A} {p i : ℕ} {l : List A} → r.count ≤ cap → b ≡ d → r.count - 1 ≤ i → Removing d p r.count r.slots i l
+      → record { got = Some (get_or r.slots p d); list = record { slots = set l (r.count - 1) b; count = r.count - 1 } } ≡ taken_at cap d p r
+  unfolding taken_at without pick
+  take_in h e k R = simp (le-leb _ _ h, lt-ltb _ _ R.place, e, remove_done k R)
 
   -- ---- another entry at a place
   pub store_over : (v : A) (p : ℕ) → cap < r.count → record { ok = false; list = r } ≡ store_at cap p v r
@@ -77,34 +109,36 @@ module _ {A : Type 0} (cap : ℕ) (r : Row A) where
   unfolding emptied pick
   empty_over d h = simp (lt-leb _ _ h)
 
-  pub empty_in : {d b : A} {i : ℕ} {l : List A} → r.count ≤ cap → b ≡ d → r.count ≤ i → Emptying b r.count r.slots i l → record { slots = l; count = 0 } ≡ emptied cap d r
+  pub empty_in : (d : A) {i : ℕ} {l : List A} → r.count ≤ cap → r.count ≤ length r.slots → length (take r.count r.slots) ≤ i
+      → Emptying d (length (take r.count r.slots)) (take r.count r.slots) i l → record { slots = l ++ drop r.count r.slots; count = 0 } ≡ emptied cap d r
   unfolding emptied pick
-  empty_in h e k E = simp (le-leb _ _ h, empty_done k E, e)
+  empty_in d h k m E =
+      let e : length (take r.count r.slots) ≡ r.count = length-take-le r.count r.slots k in
+      rw (le-leb _ _ h, empty_done m E, drop_of_length-le (take r.count r.slots) {i = length (take r.count r.slots)} (omega arith), e, append-nil)
 
-  -- ---- a search for the first that fits
-  pub found-over : (q : A → Bool) → cap < r.count → none ≡ found_in q (live cap r)
-  unfolding live pick
-  found-over q h = simp (lt-leb _ _ h, found-nil q)
+  -- ---- an entry goes in before the first that fits: o is what the search found
+  pub put_found : (p : A → Bool) (v : A) {o : Option ℕ} → cap ≤ length r.slots → o ≡ found_in p (live cap r) → put_at cap (unwrap_or o r.count) v r ≡ put_before cap p v r
+  put_found p v {o} k e = rw e (go (ltb r.count cap) refl)
+    where
+      go : (b : Bool) → ltb r.count cap ≡ b → put_at cap (unwrap_or (found_in p (live cap r)) r.count) v r ≡ put_before cap p v r
+      go true q =
+          let w : r.count < cap = ltb-true _ _ q in
+          let m : length (live cap r) ≡ r.count = rw (live_below cap r (omega arith)) (length-take-le r.count r.slots (omega arith)) in
+          ap (λ i. put_at cap i v r) (rw m at (found_or_end p (live cap r)))
+      go false q = let w : cap ≤ r.count = ltb-false _ _ q in sym (put_full _ v w) ∙ put_full _ v w
 
-  pub found_in_lem : {d : A} {q : A → Bool} {i : ℕ} → r.count ≤ cap → i < r.count → q (get_or r.slots i d) ≡ true → Searching d q r.count r.slots i
-      → some i ≡ found_in q (live cap r)
-  unfolding live pick
-  found_in_lem h k e S = simp (le-leb _ _ h, found_hit k e S)
+-- ---- what did not go in, or come out, leaves the list as it was
+module _ {A : Type 0} {n : ℕ} (cap : ℕ) (r : Arr A n) where
+  pub full_same : (p : ℕ) (v : A) (f : Full) (l : Arr A n) → put_of (Err f) l ≡ put_at cap p v r → l ≡ r
+  unfolding put_at
+  full_same p v f l e =
+      pick_case (λ q. put_of (Err f) l ≡ q → l ≡ r) (ltb r.count cap) _ _
+      (λ _. pick_case (λ q. put_of (Err f) l ≡ q → l ≡ r) (leb p r.count) _ _ (λ _ g. true_false (sym (ap (λ (q : Put A n). q.ok) g))) (λ _ g. ap (λ (q : Put A n). q.list) g))
+      (λ _ g. ap (λ (q : Put A n). q.list) g) e
 
-  pub found-past : {d : A} {q : A → Bool} {i : ℕ} → r.count ≤ cap → r.count ≤ i → Searching d q r.count r.slots i → none ≡ found_in q (live cap r)
-  unfolding live pick
-  found-past h k S = simp (le-leb _ _ h, found_none k S)
-
-  -- ---- a search for the place before it
-  pub before-over : (q : A → Bool) → cap < r.count → 0 ≡ before q (live cap r)
-  unfolding live pick
-  before-over q h = simp (lt-leb _ _ h, before-nil q)
-
-  pub before_in : {d : A} {q : A → Bool} {i : ℕ} → r.count ≤ cap → i < r.count → q (get_or r.slots i d) ≡ true → Searching d q r.count r.slots i
-      → i ≡ before q (live cap r)
-  unfolding live pick
-  before_in h k e S = simp (le-leb _ _ h, search_hit k e S)
-
-  pub before-past : {d : A} {q : A → Bool} {i : ℕ} → r.count ≤ cap → r.count ≤ i → Searching d q r.count r.slots i → r.count ≡ before q (live cap r)
-  unfolding live pick
-  before-past h k S = simp (le-leb _ _ h, search_end k S)
+  pub none_same : (d : A) (p : ℕ) (l : Arr A n) → taken_of None l ≡ taken_at cap d p r → l ≡ r
+  unfolding taken_at
+  none_same d p l e =
+      pick_case (λ q. taken_of None l ≡ q → l ≡ r) (leb r.count cap) _ _
+      (λ _. pick_case (λ q. taken_of None l ≡ q → l ≡ r) (ltb p r.count) _ _ (λ _ g. some_none (sym (ap (λ (q : Taken A n). q.got) g))) (λ _ g. ap (λ (q : Taken A n). q.list) g))
+      (λ _ g. ap (λ (q : Taken A n). q.list) g) e

@@ -1,18 +1,22 @@
 -- The laws of a loop that rewrites or searches a row of slots from the front: what the row is to become stands before place i, what it was from place i on.
 -- Assumes nothing.
+use Rattle.std.specs.Prelude.{Option, Some, None}
 use Prim.Native.Nat.{ℕ, zero, suc, ◌+◌, ◌-◌, ◌≤◌, ◌<◌}
 use mathlib.Core.Path.{◌≡◌, refl, sym, ap, ◌∙◌}
 use mathlib.Core.List.{List, [], ◌∷◌, ◌++◌}
 use mathlib.Core.Bool.{Bool, true, false}
-use mathlib.Core.Option.{none, some}
 use native.Mathlib.Nat.{not-suc-le-zero, le_of_suc-le-suc, zero-add}
 use native.Mathlib.Numerals.{add-one}
 use native.Mathlib.Omega.{arith}
 use lib.ListN.{length, take, drop, get_or, set, replicate, drop_of_length-le}
+use Rattle.std.proofs.lemmas.List.{get_or_default}
 use lib.Seq.{drop-cons, get_or-take, length-take-le}
-use borrow.Author.Tests.{lt-ltb, le-ltb}
+use borrow.Author.Tests.{lt-ltb, le-ltb, ltb-false}
+use lib.Dec.{ltb}
+use Rattle.std.specs.Option.{unwrap_or}
 use Rattle.numbers.specs.Choice.{pick}
 use Rattle.lists.specs.Lists.{insert_at, remove_at, before, found_in}
+use Rattle.lists.proofs.Cases.{pick_case}
 
 module _ {A : Type 0} where
   -- ---- t before place i, s from it on
@@ -128,8 +132,8 @@ module _ {A : Type 0} {d : A} {p : ℕ} {v : A} {n : ℕ} {l₀ : List A} where
     held = sym (insert_at-at p v l₀ d (omega arith));
   }
 
-  pub insert_turn : {i : ℕ} {l : List A} {carry : A} → i < n + 1 → Inserting d p v n l₀ i l carry → Inserting d p v n l₀ (i + 1) (set l i carry) (get_or l i d)
-  insert_turn {i} h I =
+  pub insert_turn : {i : ℕ} {l : List A} {carry : A} (e : A) → i < n + 1 → Inserting d p v n l₀ i l carry → Inserting d p v n l₀ (i + 1) (set l i carry) (get_or l i e)
+  insert_turn {i} e h I =
       let k : i < length l₀ = omega arith in
       let m : i < length (insert_at p v l₀) = rw insert_at-length (omega arith) in
       record {
@@ -138,7 +142,8 @@ module _ {A : Type 0} {d : A} {p : ℕ} {v : A} {n : ℕ} {l₀ : List A} where
         from = omega arith;
         to = omega arith;
         slots = rw (I.slots, I.held, add-one) (weave_more i (insert_at p v l₀) l₀ d m k);
-        held = rw (I.slots, add-one) (weave-later i i (insert_at p v l₀) l₀ d (omega arith) (omega arith) k ∙ sym (insert_at-after p i v l₀ d I.from (omega arith)));
+        held = rw (I.slots, add-one)
+            (weave-later i i (insert_at p v l₀) l₀ e (omega arith) (omega arith) k ∙ get_or_default l₀ i e d k ∙ sym (insert_at-after p i v l₀ d I.from (omega arith)));
       }
 
   pub insert_done : {i : ℕ} {l : List A} {carry : A} → n + 1 ≤ i → Inserting d p v n l₀ i l carry → l ≡ insert_at p v (take n l₀) ++ drop (n + 1) l₀
@@ -158,8 +163,8 @@ module _ {A : Type 0} {d : A} {p n : ℕ} {l₀ : List A} where
   pub remove_begin : p < n → n ≤ length l₀ → Removing d p n l₀ p l₀
   remove_begin h k = record { place = h; room = k; from = omega arith; to = omega arith; slots = remove_at-start p l₀ (omega arith) }
 
-  pub remove_turn : {i : ℕ} {l : List A} → i < n - 1 → Removing d p n l₀ i l → Removing d p n l₀ (i + 1) (set l i (get_or l (i + 1) d))
-  remove_turn {i} h R =
+  pub remove_turn : {i : ℕ} {l : List A} (e : A) → i < n - 1 → Removing d p n l₀ i l → Removing d p n l₀ (i + 1) (set l i (get_or l (i + 1) e))
+  remove_turn {i} e h R =
       let w = remove_at-length p l₀ (omega arith) in
       record {
         place = R.place;
@@ -168,7 +173,8 @@ module _ {A : Type 0} {d : A} {p n : ℕ} {l₀ : List A} where
         to = omega arith;
         slots = rw (
           R.slots,
-          weave-later i (i + 1) (remove_at p l₀) l₀ d (omega arith) (omega arith) (omega arith),
+          weave-later i (i + 1) (remove_at p l₀) l₀ e (omega arith) (omega arith) (omega arith),
+          get_or_default l₀ (i + 1) e d (omega arith),
           add-one,
           ← (remove_at-after p i l₀ d R.from (omega arith)),
         )
@@ -206,11 +212,9 @@ module _ {A : Type 0} {d : A} {n : ℕ} {l₀ : List A} where
   pub empty_done : {i : ℕ} {l : List A} → n ≤ i → Emptying d n l₀ i l → l ≡ replicate n d ++ drop n l₀
   empty_done {i} h E = let e : i ≡ n = omega arith in E.slots ∙ rw e
 
--- ---- a loop that looks for the first live entry that fits: at place i, of the first n of the slots s
-pub record Searching {A : Type 0} (d : A) (p : A → Bool) (n : ℕ) (s : List A) (i : ℕ) : Type 0 where
-  pub room : n ≤ length s
-  pub to : i ≤ n
-  pub so_far : before p (take n s) ≡ i + before p (drop i (take n s))
+-- ---- a loop that looks for the first entry that fits: none before place i does
+abbrev pub Searching : {A : Type 0} → (A → Bool) → List A → ℕ → Type 0
+Searching p l i = before p l ≡ i + before p (drop i l)
 
 module _ {A : Type 0} (p : A → Bool) where
   before_miss : (x : A) (l : List A) → p x ≡ false → before p (x ∷ l) ≡ suc (before p l)
@@ -221,40 +225,40 @@ module _ {A : Type 0} (p : A → Bool) where
   unfolding before pick
   before_hit x l e = rw e
 
-  pub before-nil : before p [] ≡ 0
+  before-nil : before p [] ≡ 0
   unfolding before
   before-nil = refl
 
-  pub found-nil : found_in p [] ≡ none
-  unfolding found_in before pick
-  found-nil = refl
+  pub search_begin : (l : List A) → Searching p l 0
+  search_begin l = sym (zero-add (before p l))
+
+  pub search_turn : (l : List A) (i : ℕ) (x : A) → i < length l → x ≡ get_or l i x → p x ≡ false → Searching p l i → Searching p l (i + 1)
+  search_turn l i x h e m S = S ∙ rw (drop-cons l i x h, ← e, before_miss x (drop (suc i) l) m, add-one) (omega arith)
+
+  search_hit : (l : List A) (i : ℕ) (x : A) → i < length l → x ≡ get_or l i x → p x ≡ true → Searching p l i → before p l ≡ i
+  search_hit l i x h e m S = S ∙ rw (drop-cons l i x h, ← e, before_hit x (drop (suc i) l) m) (omega arith)
+
+  search_end : (l : List A) (i : ℕ) → length l ≤ i → i ≤ length l → Searching p l i → before p l ≡ length l
+  search_end l i h k S = S ∙ rw (drop_of_length-le l h, before-nil) (omega arith)
+
+  pub found_hit : (l : List A) (i : ℕ) (x : A) → i < length l → x ≡ get_or l i x → p x ≡ true → Searching p l i → Some i ≡ found_in p l
+  unfolding found_in pick
+  found_hit l i x h e m S = simp (search_hit l i x h e m S, lt-ltb _ _ h)
+
+  pub found_none : (l : List A) (i : ℕ) → length l ≤ i → i ≤ length l → Searching p l i → None ≡ found_in p l
+  unfolding found_in pick
+  found_none l i h k S = simp (search_end l i h k S, le-ltb (length l) (length l) (omega arith))
+
+  pub before_fits : (l : List A) → before p l ≤ length l
+  unfolding before
+  before_fits [] = omega arith
+  before_fits (x ∷ l) = pick_case (λ (k : ℕ). k ≤ suc (length l)) (p x) _ _ (λ _. omega arith) (λ _. omega (arith, before_fits l))
+
+  -- the place that the search found, else the one behind the last
+  pub found_or_end : (l : List A) → unwrap_or (found_in p l) (length l) ≡ before p l
+  unfolding found_in
+  found_or_end l = pick_case (λ (o : Option ℕ). unwrap_or o (length l) ≡ before p l) (ltb (before p l) (length l)) _ _
+      (λ _. refl) (λ e. omega (arith, ltb-false _ _ e, before_fits l))
 
 pub at_place : {A : Type 0} (n : ℕ) (s : List A) (i : ℕ) (d : A) → i < n → n ≤ length s → drop i (take n s) ≡ get_or s i d ∷ drop (suc i) (take n s)
 at_place n s i d h k = drop-cons (take n s) i d (rw length-take-le (omega arith)) ∙ rw get_or-take
-
-module _ {A : Type 0} {d : A} {p : A → Bool} {n : ℕ} {s : List A} where
-  pub search_begin : n ≤ length s → Searching d p n s 0
-  search_begin k = record { room = k; to = omega arith; so_far = rw zero-add }
-
-  pub search_turn : {i : ℕ} → i < n → p (get_or s i d) ≡ false → Searching d p n s i → Searching d p n s (i + 1)
-  search_turn {i} h e S = record {
-    room = S.room;
-    to = omega arith;
-    so_far = S.so_far ∙ rw (at_place n s i d h S.room, before_miss p (get_or s i d) (drop (suc i) (take n s)) e, add-one) (omega arith);
-  }
-
-  pub search_hit : {i : ℕ} → i < n → p (get_or s i d) ≡ true → Searching d p n s i → before p (take n s) ≡ i
-  search_hit {i} h e S = S.so_far ∙ rw (at_place n s i d h S.room, before_hit p (get_or s i d) (drop (suc i) (take n s)) e) (omega arith)
-
-  pub search_end : {i : ℕ} → n ≤ i → Searching d p n s i → before p (take n s) ≡ n
-  search_end {i} h S =
-      let past : length (take n s) ≤ i = rw (length-take-le n s S.room) h in
-      S.so_far ∙ rw (drop_of_length-le (take n s) past, before-nil p) (omega arith)
-
-  pub found_hit : {i : ℕ} → i < n → p (get_or s i d) ≡ true → Searching d p n s i → found_in p (take n s) ≡ some i
-  unfolding found_in pick
-  found_hit h e S = simp (search_hit h e S, length-take-le n s S.room, lt-ltb _ _ h)
-
-  pub found_none : {i : ℕ} → n ≤ i → Searching d p n s i → found_in p (take n s) ≡ none
-  unfolding found_in pick
-  found_none h S = simp (search_end h S, length-take-le n s S.room, le-ltb n n (omega arith))

@@ -1,8 +1,9 @@
 -- Sums over the slots below the count, whatever the length of the row: a blank adds nothing. What an operation does to them, as one case for each way out.
 -- Assumes nothing.
+use Rattle.std.specs.Prelude.{Some, None}
+use Rattle.numbers.specs.Choice.{on_some}
 use Prim.Native.Nat.{ℕ, zero, suc, ◌+◌, ◌-◌, ◌≤◌, ◌<◌}
 use mathlib.Core.Bool.{Bool, true, false}
-use mathlib.Core.Option.{none, some}
 use mathlib.Core.Path.{◌≡◌, refl, ap, ◌∙◌}
 use mathlib.Core.List.{List, [], ◌∷◌, ◌++◌}
 use native.Mathlib.Nat.{not-suc-le-zero, le_of_suc-le-suc}
@@ -11,9 +12,10 @@ use lib.ListN.{length, take, drop, get_or, set, length-append, length-take, drop
 use lib.Seq.{length-take-le, take_at, take_all, take-nil, take-take, get_or-take, take-set-lt}
 use borrow.Author.Tests.{ltb-true, ltb-false, leb-true, leb-false}
 use lib.Dec.{ltb, leb}
-use Rattle.lists.specs.Lists.{Row, Put, Taken, on_some, insert_at, remove_at, before, found_in, below, live, placed, without, put_at, taken_at, entry_at, store_at, total}
+use Rattle.lists.specs.Lists.{Put, Taken, insert_at, remove_at, before, found_in, below, live, placed, without, put_at, taken_at, entry_at, store_at, total}
 use Rattle.lists.proofs.Cases.{pick_case}
 use Rattle.lists.proofs.Loops.{insert_at-length, remove_at-length}
+use Rattle.lists.specs.declared.Arr.{Arr}
 
 module _ {A : Type 0} where
   remove_most : (i : ℕ) (l : List A) → length (remove_at i l) ≤ length l
@@ -90,7 +92,7 @@ module _ {A : Type 0} (f : A → ℕ) where
   there (x ∷ l) (suc i) d z h = let e = there l i d z h in omega arith
 
   -- ---- whole operations
-  placed_total : (i : ℕ) (v : A) (r : Row A) → total f (below (placed i v r)) ≡ f v + total f (below r)
+  placed_total : {n : ℕ} (i : ℕ) (v : A) (r : Arr A n) → total f (below (placed i v r)) ≡ f v + total f (below r)
   unfolding placed total
   placed_total i v r = go (leb r.count (length r.slots)) refl
     where
@@ -104,7 +106,7 @@ module _ {A : Type 0} (f : A → ℕ) where
           let k : length (insert_at i v (below r) ++ []) ≤ r.count + 1 = rw (length-append, insert_at-length, length-take) (omega arith) in
           rw (z, take_all (r.count + 1) (insert_at i v (below r) ++ []) k, total-append (insert_at i v (below r)) [], total_insert i v (below r)) (omega arith)
 
-  without-total : (d : A) (i : ℕ) (r : Row A) → f d ≡ 0 → i < r.count → f (get_or r.slots i d) + total f (below (without d i r)) ≡ total f (below r)
+  without-total : {n : ℕ} (d : A) (i : ℕ) (r : Arr A n) → f d ≡ 0 → i < r.count → f (get_or r.slots i d) + total f (below (without d i r)) ≡ total f (below r)
   unfolding without
   without-total d i r z h = go (leb r.count (length r.slots)) refl
     where
@@ -129,12 +131,12 @@ module _ {A : Type 0} (f : A → ℕ) where
       rw (take-set-lt n l i v h, ← get_or-take n l i d h) (total-set i v d (take n l) w)
 
 -- ---- what is known of a list after an entry went in, or came out
-pub record Added {A : Type 0} (cap : ℕ) (v : A) (r l : Row A) : Type 0 where
+pub record Added {A : Type 0} {n : ℕ} (cap : ℕ) (v : A) (r l : Arr A n) : Type 0 where
   pub room : l.count ≤ cap
   pub one_more : l.count ≡ r.count + 1
   pub sums : (f : A → ℕ) → total f (below l) ≡ f v + total f (below r)
 
-pub record Took {A : Type 0} (cap : ℕ) (d : A) (i : ℕ) (r : Row A) (x : A) (l : Row A) : Type 0 where
+pub record Took {A : Type 0} {n : ℕ} (cap : ℕ) (d : A) (i : ℕ) (r : Arr A n) (x : A) (l : Arr A n) : Type 0 where
   pub within : r.count ≤ cap
   pub inside : i < r.count
   pub is : x ≡ get_or r.slots i d
@@ -142,18 +144,18 @@ pub record Took {A : Type 0} (cap : ℕ) (d : A) (i : ℕ) (r : Row A) (x : A) (
   pub sums : (f : A → ℕ) → f d ≡ 0 → f x + total f (below l) ≡ total f (below r)
   pub front : i < length r.slots → take i l.slots ≡ take i r.slots
 
-module _ {A : Type 0} (cap : ℕ) where
-  added : (i : ℕ) (v : A) (r : Row A) → r.count < cap → Added cap v r (placed i v r)
+module _ {A : Type 0} {n : ℕ} (cap : ℕ) where
+  added : (i : ℕ) (v : A) (r : Arr A n) → r.count < cap → Added cap v r (placed i v r)
   unfolding placed
   added i v r w = record { room = omega arith; one_more = refl; sums = λ f. placed_total f i v r }
 
-  pub put_case : (P : Put A → Type 0) (i : ℕ) (v : A) (r : Row A)
-      → ((l : Row A) → Added cap v r l → P (record { ok = true; list = l })) → P (record { ok = false; list = r }) → P (put_at cap i v r)
+  pub put_case : (P : Put A n → Type 0) (i : ℕ) (v : A) (r : Arr A n)
+      → ((l : Arr A n) → Added cap v r l → P (record { ok = true; list = l })) → P (record { ok = false; list = r }) → P (put_at cap i v r)
   unfolding put_at
   put_case P i v r h k =
       pick_case P (ltb r.count cap) _ _ (λ e. pick_case P (leb i r.count) _ _ (λ _. h (placed i v r) (added i v r (ltb-true _ _ e))) (λ _. k)) (λ _. k)
 
-  took : (d : A) (i : ℕ) (r : Row A) → r.count ≤ cap → i < r.count → Took cap d i r (get_or r.slots i d) (without d i r)
+  took : (d : A) (i : ℕ) (r : Arr A n) → r.count ≤ cap → i < r.count → Took cap d i r (get_or r.slots i d) (without d i r)
   unfolding without
   took d i r n h =
       record {
@@ -165,16 +167,16 @@ module _ {A : Type 0} (cap : ℕ) where
         front = λ k. let w : i < length (below r) = rw length-take (omega arith) in remove_front i (below r) _ w ∙ take-take i r.count r.slots (omega arith);
       }
 
-  pub take_case : (P : Taken A → Type 0) (d : A) (i : ℕ) (r : Row A)
-      → ((x : A) (l : Row A) → Took cap d i r x l → P (record { got = some x; list = l }))
-      → ((r.count ≤ cap → r.count ≤ i) → P (record { got = none; list = r })) → P (taken_at cap d i r)
+  pub take_case : (P : Taken A n → Type 0) (d : A) (i : ℕ) (r : Arr A n)
+      → ((x : A) (l : Arr A n) → Took cap d i r x l → P (record { got = Some x; list = l }))
+      → ((r.count ≤ cap → r.count ≤ i) → P (record { got = None; list = r })) → P (taken_at cap d i r)
   unfolding taken_at
   take_case P d i r h k =
       pick_case P (leb r.count cap) _ _
       (λ e. pick_case P (ltb i r.count) _ _ (λ g. h _ _ (took d i r (leb-true _ _ e) (ltb-true _ _ g))) (λ g. k (λ _. ltb-false _ _ g)))
       (λ e. k (λ n. let w : cap < r.count = leb-false _ _ e in absurd (omega arith)))
 
-  pub entry_case : {B : Type 0} (P : B → Type 0) (d : A) (i : ℕ) (r : Row A) (k : A → B) (z : B)
+  pub entry_case : {B : Type 0} (P : B → Type 0) (d : A) (i : ℕ) (r : Arr A n) (k : A → B) (z : B)
       → (r.count ≤ cap → i < r.count → P (k (get_or r.slots i d))) → ((r.count ≤ cap → r.count ≤ i) → P z) → P (on_some (entry_at cap d i r) k z)
   unfolding entry_at on_some
   entry_case P d i r k z h g =
@@ -182,7 +184,7 @@ module _ {A : Type 0} (cap : ℕ) where
       (λ e. pick_case (λ o. P (on_some o k z)) (ltb i r.count) _ _ (λ w. h (leb-true _ _ e) (ltb-true _ _ w)) (λ w. g (λ _. ltb-false _ _ w)))
       (λ e. g (λ n. let w : cap < r.count = leb-false _ _ e in absurd (omega arith)))
 
-  pub store_case : (P : Put A → Type 0) (i : ℕ) (v : A) (r : Row A)
+  pub store_case : (P : Put A n → Type 0) (i : ℕ) (v : A) (r : Arr A n)
       → (r.count ≤ cap → i < r.count → P (record { ok = true; list = record { slots = set r.slots i v; count = r.count } })) → P (record { ok = false; list = r })
       → P (store_at cap i v r)
   unfolding store_at
@@ -196,21 +198,21 @@ module _ {A : Type 0} (p : A → Bool) (d : A) where
   fits-at [] h = absurd (omega arith)
   fits-at (x ∷ l) h = pick_case (λ n. n < suc (length l) → p (get_or (x ∷ l) n d) ≡ true) (p x) _ _ (λ e _. e) (λ e g. fits-at l (le_of_suc-le-suc g)) h
 
-  found-fits : (l : List A) (i : ℕ) → found_in p l ≡ some i → p (get_or l i d) ≡ true
+  found-fits : (l : List A) (i : ℕ) → found_in p l ≡ Some i → p (get_or l i d) ≡ true
   unfolding found_in
-  found-fits l i = pick_case (λ o. o ≡ some i → p (get_or l i d) ≡ true) (ltb (before p l) (length l)) _ _
+  found-fits l i = pick_case (λ o. o ≡ Some i → p (get_or l i d) ≡ true) (ltb (before p l) (length l)) _ _
       (λ e q. let w : before p l ≡ i = cc in rw w at (fits-at l (ltb-true _ _ e))) (λ e q. let z : ◌≡◌ {A = ℕ} 0 1 = cc in absurd (omega arith))
 
-  found_inside : (l : List A) (i : ℕ) → found_in p l ≡ some i → i < length l
+  found_inside : (l : List A) (i : ℕ) → found_in p l ≡ Some i → i < length l
   unfolding found_in
-  found_inside l i = pick_case (λ o. o ≡ some i → i < length l) (ltb (before p l) (length l)) _ _
+  found_inside l i = pick_case (λ o. o ≡ Some i → i < length l) (ltb (before p l) (length l)) _ _
       (λ e q. let w : before p l ≡ i = cc in let k : before p l < length l = ltb-true _ _ e in omega arith) (λ e q. let z : ◌≡◌ {A = ℕ} 0 1 = cc in absurd (omega arith))
 
   -- of a list: the count is within the capacity, the place is below the count, and what stands there fits
-  pub found-live : (cap : ℕ) (r : Row A) (i : ℕ) → found_in p (live cap r) ≡ some i → (r.count ≤ cap) × (i < r.count) × (p (get_or r.slots i d) ≡ true)
+  pub found-live : {n : ℕ} (cap : ℕ) (r : Arr A n) (i : ℕ) → found_in p (live cap r) ≡ Some i → (r.count ≤ cap) × (i < r.count) × (p (get_or r.slots i d) ≡ true)
   unfolding live
   found-live cap r i =
-      pick_case (λ l. found_in p l ≡ some i → (r.count ≤ cap) × (i < r.count) × (p (get_or r.slots i d) ≡ true)) (leb r.count cap) _ _
+      pick_case (λ l. found_in p l ≡ Some i → (r.count ≤ cap) × (i < r.count) × (p (get_or r.slots i d) ≡ true)) (leb r.count cap) _ _
       (λ e q.
       let n = found_inside (below r) i q in
       let k : i < r.count = omega (arith, length-take r.count r.slots) in

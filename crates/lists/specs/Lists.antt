@@ -1,37 +1,38 @@
 -- "Every list is a count beside a fixed row of slots": the operations, of any kind of entry. Each is said of the live entries, then of what stands after them.
 -- A count above the capacity, a place past the end and a full list leave the list as it is.
-use Rattle.std.specs.Prelude.{ℕ, suc, ◌+◌, ◌-◌, Bool, true, false, List, [], ◌∷◌, ◌++◌, ltb, leb, length, take, drop, get_or, set, replicate}
-use Rattle.std.proofs.Math.Option.{Option, none, some}
+use Rattle.std.specs.Prelude.{◌≡◌, ℕ, suc, ◌+◌, ◌-◌, Bool, true, false, List, [], ◌∷◌, ◌++◌, ltb, leb, length, take, drop, get_or, set, replicate, is_ok, Option, Some, None, Result}
+use Rattle.std.specs.Fn.{Shared, FnReturnsAt}
+use Rattle.std.specs.Borrow.{Bor}
+use Rattle.lists.specs.declared.Arr.{Arr}
+use Rattle.lists.specs.declared.Full.{Full}
 use Rattle.numbers.specs.Choice.{pick}
 
-pub record Row (A : Type 0) : Type 0 where
-  pub slots : List A
-  pub count : ℕ
-
 -- what putting an entry in answers: ok is false where it does not go in
-pub record Put (A : Type 0) : Type 0 where
+pub record Put (A : Type 0) (n : ℕ) : Type 0 where
   pub ok : Bool
-  pub list : Row A
+  pub list : Arr A n
 
 -- what taking an entry out answers
-pub record Taken (A : Type 0) : Type 0 where
+pub record Taken (A : Type 0) (n : ℕ) : Type 0 where
   pub got : Option A
-  pub list : Row A
+  pub list : Arr A n
 
--- k of what an option holds, else z
-unfoldable pub on_some : {A B : Type 0} → Option A → (A → B) → B → B
-on_some none k z = z
-on_some (some x) k z = k x
+-- what the code's answers say, beside the list that they leave
+abbrev pub put_of : {A : Type 0} {n : ℕ} → Result (Unit {0}) Full → Arr A n → Put A n
+put_of r l = record { ok = is_ok r; list = l }
+
+abbrev pub taken_of : {A : Type 0} {n : ℕ} → Option A → Arr A n → Taken A n
+taken_of got l = record { got = got; list = l }
+
+-- whatever the test answers of an entry is what p says of it
+abbrev pub Computes : {F A : Type 0} → Shared F (Bor A × Unit {0}) Bool → F → (A → Bool) → Type 0
+Computes {F} {A} g test p = (x : A) (b : Bool) → FnReturnsAt g test x b → b ≡ p x
+
+-- no entry, and n blank slots
+abbrev pub empty : {A : Type 0} (n : ℕ) → A → Arr A n
+empty n blank = record { slots = replicate n blank; count = 0 }
 
 module _ {A : Type 0} where
-  -- the slots below the count
-  abbrev pub below : Row A → List A
-  below r = take r.count r.slots
-
-  -- the live entries of a list of capacity cap: a count above it has none
-  unfoldable pub live : ℕ → Row A → List A
-  live cap r = pick (leb r.count cap) (below r) []
-
   -- l with v at place i: what stood there and after it stands one place later
   unfoldable pub insert_at : ℕ → A → List A → List A
   insert_at i v l = take i l ++ v ∷ drop i l
@@ -47,55 +48,64 @@ module _ {A : Type 0} where
 
   -- the place of the first that fits
   unfoldable pub found_in : (A → Bool) → List A → Option ℕ
-  found_in p l = pick (ltb (before p l) (length l)) (some (before p l)) none
+  found_in p l = pick (ltb (before p l) (length l)) (Some (before p l)) None
+
+module _ {A : Type 0} {n : ℕ} where
+  -- the slots below the count
+  abbrev pub below : Arr A n → List A
+  below r = take r.count r.slots
+
+  -- the live entries of a list of capacity cap: a count above it has none
+  unfoldable pub live : ℕ → Arr A n → List A
+  live cap r = pick (leb r.count cap) (below r) []
 
   -- v stands at place i, and the slot at the count is overwritten
-  unfoldable pub placed : ℕ → A → Row A → Row A
+  unfoldable pub placed : ℕ → A → Arr A n → Arr A n
   placed i v r = record { slots = insert_at i v (below r) ++ drop (r.count + 1) r.slots; count = r.count + 1 }
 
   -- the entry at place i is gone, and the last live slot has become blank
-  unfoldable pub without : A → ℕ → Row A → Row A
+  unfoldable pub without : A → ℕ → Arr A n → Arr A n
   without blank i r = record { slots = remove_at i (below r) ++ blank ∷ drop r.count r.slots; count = r.count - 1 }
 
   -- v goes in at place i, where there is room and i is no further than the first free slot
-  unfoldable pub put_at : ℕ → ℕ → A → Row A → Put A
+  unfoldable pub put_at : ℕ → ℕ → A → Arr A n → Put A n
   put_at cap i v r =
       pick (ltb r.count cap)
       (pick (leb i r.count) (record { ok = true; list = placed i v r }) (record { ok = false; list = r }))
       (record { ok = false; list = r })
 
   -- v goes in behind the last
-  abbrev pub pushed : ℕ → A → Row A → Put A
+  abbrev pub pushed : ℕ → A → Arr A n → Put A n
   pushed cap v r = put_at cap r.count v r
 
   -- v goes in before the first that fits, else behind the last
-  abbrev pub put_before : ℕ → (A → Bool) → A → Row A → Put A
+  abbrev pub put_before : ℕ → (A → Bool) → A → Arr A n → Put A n
   put_before cap p v r = put_at cap (before p (live cap r)) v r
 
   -- the entry at place i comes out
-  unfoldable pub taken_at : ℕ → A → ℕ → Row A → Taken A
+  unfoldable pub taken_at : ℕ → A → ℕ → Arr A n → Taken A n
   taken_at cap blank i r =
       pick (leb r.count cap)
-      (pick (ltb i r.count) (record { got = some (get_or r.slots i blank); list = without blank i r }) (record { got = none; list = r }))
-      (record { got = none; list = r })
+      (pick (ltb i r.count) (record { got = Some (get_or r.slots i blank); list = without blank i r }) (record { got = None; list = r }))
+      (record { got = None; list = r })
 
   -- the first comes out
-  abbrev pub popped : ℕ → A → Row A → Taken A
+  abbrev pub popped : ℕ → A → Arr A n → Taken A n
   popped cap blank r = taken_at cap blank 0 r
 
   -- the live entry at place i
-  unfoldable pub entry_at : ℕ → A → ℕ → Row A → Option A
-  entry_at cap blank i r = pick (leb r.count cap) (pick (ltb i r.count) (some (get_or r.slots i blank)) none) none
+  unfoldable pub entry_at : ℕ → A → ℕ → Arr A n → Option A
+  entry_at cap blank i r = pick (leb r.count cap) (pick (ltb i r.count) (Some (get_or r.slots i blank)) None) None
 
   -- the live entry at place i becomes v
-  unfoldable pub store_at : ℕ → ℕ → A → Row A → Put A
+  unfoldable pub store_at : ℕ → ℕ → A → Arr A n → Put A n
   store_at cap i v r =
       pick (leb r.count cap)
       (pick (ltb i r.count) (record { ok = true; list = record { slots = set r.slots i v; count = r.count } }) (record { ok = false; list = r }))
       (record { ok = false; list = r })
 
   -- no entry is live, and the slots below the count have become blank
-  unfoldable pub emptied : ℕ → A → Row A → Row A
+  unfoldable pub emptied : ℕ → A → Arr A n → Arr A n
   emptied cap blank r = pick (leb r.count cap) (record { slots = replicate r.count blank ++ drop r.count r.slots; count = 0 }) r
 
 -- the sum of f over the entries

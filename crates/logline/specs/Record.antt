@@ -1,5 +1,5 @@
 -- The line that `replay` prints of a record of the log, from its words.
-use Rattle.std.specs.Prelude.{ℕ, List, [], ◌∷◌, ◌++◌, map, eqb, get_or}
+use Rattle.std.specs.Prelude.{ℕ, List, [], ◌∷◌, ◌++◌, eqb, get_or}
 use Rattle.numbers.specs.Choice.{pick}
 use Rattle.text.specs.Bytes.{bytes}
 use Rattle.write.specs.Write.{decimal}
@@ -29,13 +29,6 @@ kind_name n =
     (pick (eqb n 3) (bytes "cancelrejected")
     (pick (eqb n 4) (bytes "partial")
     (bytes "fill")))))
-
--- the names of the events, by their kinds in the log from 1; "named halt, dropped, expired, dropexp"
-abbrev pub event_names : List (List ℕ)
-event_names = map bytes ("" ∷ "report" ∷ "fill" ∷ "delivered" ∷ "observed" ∷ "rowend" ∷ "eod" ∷ "halt" ∷ "dropped" ∷ "expired" ∷ "dropexp" ∷ [])
-
-unfoldable pub event_name : ℕ → List ℕ
-event_name kind = get_or event_names kind []
 
 -- "report and delivered ts, seq, order, kind, cum"
 unfoldable pub report_line : List ℕ → List ℕ → List ℕ

@@ -1,3 +1,2 @@
-pub mod MatchingExits
-pub mod Idle
-pub mod Pass
+pub mod Fills
+pub mod Passes

@@ -1,385 +1,200 @@
-// Matching a row over the booked orders, and the terminal orders that leave after it.
+// Matching a row over the booked orders, and the terminal orders that leave after it (match_row and process_fill of step.rs of the Rust).
 #![tactic(auto)]
 
-ghost use Rattle.std.specs.Prelude.{◌≡◌, ℕ, ◌<◌, ◌≤◌, List};
-ghost use Rattle.std.proofs.Math.Option.{some};
-ghost use Rattle.lists.specs.Lists.{entry_at};
-ghost use Rattle.book.specs.Capacities.{orders_capacity, deliveries_capacity};
-ghost use Rattle.book.specs.Entries.{blank_order, remaining};
-ghost use Rattle.orders.specs.Rows.{orders_row};
-ghost use Rattle.state.specs.declared.KernelState.{KernelState};
-ghost use Rattle.state.specs.With.{with_orders};
-ghost use Rattle.rules.specs.Run.{halt_at};
-ghost use Rattle.rules.specs.Report.{report_at};
-ghost use Rattle.rules.specs.Matching.{filled_by, record_at, fill_kind, fill_event, fill_at, fills_of, leave, terminal_at, sweep_from};
-ghost use Rattle.reports.specs.Log.{log_at, expected, actual};
-ghost use Rattle.reports.specs.Report.{with_venue};
-ghost use Rattle.reports.specs.declared.Outcome.TheVariants.{Ran};
-ghost use Rattle.matching.specs.Matching.{filled_in, fill_delivery, filled_order_in, rule_fills, looks_at, any_terminal, swept_in, with_swept};
+ghost use Rattle.std.specs.Prelude.{◌≡◌, ◌≤◌, IfOk};
+ghost use Rattle.book.specs.Entries.{remaining};
+ghost use Rattle.rules.specs.Matching.{filled_by, fill_kind, fill_record, fill_event, fill_at, match_at, match_from, leave, terminal_at, sweep, gate_marked, match_row};
+ghost use Rattle.reports.specs.Log.{log_of, expected, actual, halting, run_of};
+ghost use Rattle.reports.specs.Report.{stamp_of};
 
-use book::config::{Config, FillMode, KernelTick};
-use book::{Delivery, ExecKind, FillRec, MaybeFill, OrderState, ReportRec, VenueOrder};
+use book::config::{Config, KernelTick};
+use book::{ExecKind, FillRec, OrderState, VenueOrder};
+use deeds::{await_marked, remove_expiry};
 use fill::{fill_lots, matches};
-use messages::remove_expiry;
 use models::gate;
-use models::gate::Gated;
-use msgs::Msgs;
-use numbers::MaybeU64;
 use numbers::words::{checked_add, checked_mul};
-use orders::{MaybeOrder, Orders};
-use reports::log::emit;
-use reports::report::{report_on, stamp, status_report};
-use reports::{Outcome, Venue};
-use state::{Clock, HaltReason, KernelEvent, Seqs};
+use reports::log::Log;
+use reports::report::{Stamped, queue_delivery, stamp, status_report};
+use state::{GateState, HaltReason, KernelEvent, KernelState};
 
-// A fill up to its event.
-#[derive(Clone, Copy)]
-pub struct Filled {
-    pub outcome: Outcome,
-    pub venue: Venue,
-    pub raised: u64,
-}
-
-// A fill with its report: the order as it is to be stored. Its delivery has room where it ran; the caller puts it behind those that wait.
-#[derive(Clone, Copy)]
-pub struct FilledOrder {
-    pub outcome: Outcome,
-    pub venue: Venue,
-    pub order: VenueOrder,
-    pub raised: u64,
-}
-
-// The lots that a row fills of an order: none, so many, or the halt of the queue rule.
-#[derive(Clone, Copy)]
-pub enum Lots {
-    Nothing,
-    Take(VenueOrder, u64),
-    Fail,
-}
-
-// What the terminal orders' leaving changes of the state.
-#[derive(Clone, Copy)]
-pub struct Swept {
-    pub outcome: Outcome,
-    pub orders: Orders,
-    pub msgs: Msgs,
-    pub awaiting: Orders,
-}
-
-// The order after a fill, which is Filled where nothing remains. A fill is never above the lots that remain: the sum does not wrap.
-fn filled_by(order: VenueOrder, lots: u64) -> VenueOrder
-    ensures { lots ≤ remaining order → result ≡ filled_by lots order }
+// The order after a fill, which is Filled where nothing remains.
+#[tactic(auto, unfolding(rules::specs::Matching::filled_by, numbers::specs::Choice::pick))]
+fn filled_by(order: &VenueOrder, lots: u64) -> VenueOrder
+    requires { lots ≤ remaining order.now }
+    ensures { result ≡ filled_by lots order.now }
 {
-    let left = order.remaining();
-    let sum = std::num::wrapping_add_u64(order.filled, lots);
-    if lots == left {
-        let mut next = order.in_state(OrderState::Filled);
-        next.filled = sum;
-        return next;
+    let state = if lots == order.remaining() {
+        OrderState::Filled
+    } else {
+        order.state
+    };
+    VenueOrder {
+        filled: order.filled + lots,
+        state,
+        ..*order
     }
-    let mut next = order;
-    next.filled = sum;
-    next
 }
 
-fn fill_kind(order: VenueOrder, lots: u64) -> ExecKind
-    ensures { result ≡ fill_kind lots order }
+// A fill of all that remained, or a partial one.
+#[tactic(auto, unfolding(numbers::specs::Choice::pick))]
+fn fill_kind(order: &VenueOrder, lots: u64) -> ExecKind
+    ensures { result ≡ fill_kind lots order.now }
 {
-    let left = order.remaining();
-    if lots == left {
-        return ExecKind::Fill;
+    if lots == order.remaining() {
+        ExecKind::Fill
+    } else {
+        ExecKind::PartialFill
     }
-    ExecKind::PartialFill
 }
 
-// The record of a fill, by the numbers at its stamp.
-fn fill_record(now_ns: u64, exec_id: u64, order: VenueOrder, lots: u64) -> FillRec
-    ensures { result ≡ record_at now_ns exec_id order lots }
+// A fill up to its event: the stamp, then the gate and the execution number, written only when both and the doubled price have passed, and the counter.
+fn fill_event(
+    order: &VenueOrder,
+    lots: u64,
+    s: &mut KernelState,
+    log: &mut Log,
+) -> Result<(Stamped, FillRec), HaltReason>
+    ensures rule { actual (halting result) s.new (log_of log.new) ≡ expected (log_of log.old) (fill_event order.now lots s.old) }
+    ensures answer { IfOk result (λ told. told ≡ (stamp_of s.old, fill_record s.old order.now lots)) }
 {
-    let side = order.side;
-    FillRec {
-        ts_ns: now_ns,
+    let stamped = stamp(s)?;
+    let gate = gate::fill(s.gate, order.side, lots).ok_or(HaltReason::CounterOverflow)?;
+    checked_mul(order.price, 2).ok_or(HaltReason::LedgerOverflow)?;
+    let exec_id = s.seqs.next_exec_id;
+    let next_exec_id = checked_add(exec_id, 1).ok_or(HaltReason::CounterOverflow)?;
+    s.gate = gate;
+    s.seqs.next_exec_id = next_exec_id;
+    s.counters.venue_fills = checked_add(s.counters.venue_fills, 1).ok_or(
+        HaltReason::CounterOverflow,
+    )?;
+    let fill = FillRec {
+        ts_ns: stamped.ts_ns,
         exec_id,
         order_id: order.id,
-        side,
+        side: order.side,
         price: order.price,
         qty: lots,
-    }
+    };
+    log.emit(KernelEvent::Fill(fill));
+    Ok((stamped, fill))
 }
 
-// The report of a fill, by the numbers at its stamp.
-fn fill_report(now_ns: u64, seq: u64, order: VenueOrder, lots: u64) -> ReportRec
-    ensures { lots ≤ remaining order → result ≡ report_at now_ns seq (filled_by lots order) (fill_kind lots order) order.cancel_inflight lots }
+// A fill, then the order stored, and its report.
+fn fill_at(
+    cfg: &Config,
+    index: usize,
+    order: &VenueOrder,
+    lots: u64,
+    s: &mut KernelState,
+    log: &mut Log,
+) -> Result<(), HaltReason>
+    requires { lots ≤ remaining order.now }
+    ensures { actual (halting result) s.new (log_of log.new) ≡ expected (log_of log.old) (fill_at cfg.now index order.now lots s.old) }
 {
+    let (stamped, fill) = fill_event(order, lots, s, log)?;
     let filled = filled_by(order, lots);
     let kind = fill_kind(order, lots);
-    status_report(now_ns, seq, filled, kind, order.cancel_inflight, lots)
+    let report = status_report(stamped, &filled, kind, order.cancel_inflight, lots);
+    let _ = s.orders.store(index, filled);
+    queue_delivery(cfg, s, report, Some(fill), log)
 }
 
-// The delivery of a fill: the clock after its report, and the sequence numbers at its stamp.
-pub fn fill_delivery(clock: Clock, before: Seqs, order: VenueOrder, lots: u64) -> Delivery
-    ensures { lots ≤ remaining order → result ≡ fill_delivery clock before order lots }
+// The row at one place.
+fn match_at(
+    cfg: &Config,
+    row: &KernelTick,
+    index: usize,
+    s: &mut KernelState,
+    log: &mut Log,
+) -> Result<(), HaltReason>
+    ensures { actual (halting result) s.new (log_of log.new) ≡ expected (log_of log.old) (match_at cfg.now row.now index s.old) }
 {
-    let report = fill_report(clock.now_ns, before.stamp_seq, order, lots);
-    let fill = fill_record(clock.now_ns, before.next_exec_id, order, lots);
-    Delivery {
-        at_ns: clock.last_delivery_ns,
-        report,
-        fill: MaybeFill::Some(fill),
+    let Some(order) = s.orders.get(index) else {
+        return Ok(());
+    };
+    if !matches(row, &order) {
+        return Ok(());
     }
+    let lots = fill_lots(&cfg.fill, row, &order).ok_or(HaltReason::CounterOverflow)?;
+    if lots == 0 {
+        return Ok(());
+    }
+    fill_at(cfg, index, &order, lots, s, log)
 }
 
-// A fill that halts, with what it has changed so far.
-fn stopped(reason: HaltReason, venue: Venue, raised: u64) -> Filled
-    ensures { (s : KernelState) (w : List ℕ) → actual (filled_in s result) w ≡ expected (log_at w raised) (halt_at reason (with_venue s venue)) }
+// The row over the orders, in list order: a look for each, and no more than there are places. An order that it fills stays where it is.
+fn match_orders(
+    cfg: &Config,
+    row: &KernelTick,
+    s: &mut KernelState,
+    log: &mut Log,
+) -> Result<(), HaltReason>
+    ensures { actual (halting result) s.new (log_of log.new) ≡ expected (log_of log.old) (match_from cfg.now row.now s.old.orders.count 0 s.old) }
 {
-    Filled {
-        outcome: Outcome::Halt(reason),
-        venue,
-        raised,
+    let looks = s.orders.count.min(orders::CAPACITY);
+    for index in 0..looks {
+        match_at(cfg, row, index, s, log)?;
     }
+    Ok(())
 }
 
-// A fill: the stamp, then the gate and the exec id, written only when both and the doubled price have passed; the counter and the event.
-fn fill_at(log: &mut [u64], raised: u64, order: VenueOrder, lots: u64, mut v: Venue) -> Filled
-    ensures { (s : KernelState) → actual (filled_in s result) log.new ≡ expected (log_at log.old raised) (fill_event order lots (with_venue s v)) }
+#[tactic(auto, unfolding(rules::specs::Matching::terminal_at, numbers::specs::Choice::on_some))]
+fn terminal_at(place: usize, s: &KernelState) -> bool
+    ensures { result ≡ terminal_at place s.now }
 {
-    let before = v.seqs;
-    let a = stamp(before);
-    let after = a.seqs;
-    v.seqs = after;
-    let o = a.outcome;
-    let Outcome::Ran = o else {
-        return Filled {
-            outcome: o,
-            venue: v,
-            raised,
-        };
-    };
-    let side = order.side;
-    let g = v.gate;
-    let gated = gate::fill(g, side, lots);
-    let Gated::Done(kept) = gated else {
-        return stopped(HaltReason::CounterOverflow, v, raised);
-    };
-    let doubled = checked_mul(order.price, 2);
-    let MaybeU64::Some(_) = doubled else {
-        return stopped(HaltReason::LedgerOverflow, v, raised);
-    };
-    let exec = checked_add(after.next_exec_id, 1);
-    let MaybeU64::Some(next_exec_id) = exec else {
-        return stopped(HaltReason::CounterOverflow, v, raised);
-    };
-    v.gate = kept;
-    v.seqs.next_exec_id = next_exec_id;
-    let count = checked_add(v.counters.venue_fills, 1);
-    let MaybeU64::Some(venue_fills) = count else {
-        return stopped(HaltReason::CounterOverflow, v, raised);
-    };
-    v.counters.venue_fills = venue_fills;
-    let fill = fill_record(v.clock.now_ns, before.next_exec_id, order, lots);
-    let n = emit(log, raised, KernelEvent::Fill(fill));
-    Filled {
-        outcome: Outcome::Ran,
-        venue: v,
-        raised: n,
-    }
+    s.orders
+        .get(place)
+        .is_some_and(|order| order.state.is_terminal())
 }
 
-// A fill, then the order stored and its report. `waiting` deliveries are before its own.
-pub fn fill_order(
-    log: &mut [u64],
-    raised: u64,
-    cfg: Config,
-    order: VenueOrder,
-    lots: u64,
-    venue: Venue,
-    waiting: usize,
-) -> FilledOrder
-    ensures { ((s : KernelState) (i : ℕ) → waiting ≡ s.deliveries.count → entry_at orders_capacity blank_order i (orders_row s.orders) ≡ some order → lots ≤ remaining order → actual (filled_order_in s i order lots venue.seqs result) log.new ≡ expected (log_at log.old raised) (fill_at cfg i order lots (with_venue s venue))) × (result.outcome ≡ Ran → waiting < deliveries_capacity) }
+// The order at a place leaves with its expiry, to awaiting if a cancel is in flight.
+fn leave(place: usize, s: &mut KernelState) -> Result<(), HaltReason>
+    ensures { run_of result s.new ≡ leave place s.old }
 {
-    let before = venue.seqs;
-    let now_ns = venue.clock.now_ns;
-    let a = fill_at(log, raised, order, lots, venue);
-    let mut v = a.venue;
-    let o = a.outcome;
-    let Outcome::Ran = o else {
-        return FilledOrder {
-            outcome: o,
-            venue: v,
-            order,
-            raised: a.raised,
-        };
+    let Some(order) = s.orders.remove(place) else {
+        return Ok(());
     };
-    let filled = filled_by(order, lots);
-    let report = fill_report(now_ns, before.stamp_seq, order, lots);
-    let clock = v.clock;
-    let q = report_on(log, a.raised, cfg, report, v.rng_latency, clock);
-    let c = q.clock;
-    v.rng_latency = q.rng_latency;
-    v.clock = c;
-    let p = q.outcome;
-    let Outcome::Ran = p else {
-        return FilledOrder {
-            outcome: p,
-            venue: v,
-            order: filled,
-            raised: q.raised,
-        };
-    };
-    if waiting >= deliveries::CAPACITY {
-        return FilledOrder {
-            outcome: Outcome::Halt(HaltReason::CounterOverflow),
-            venue: v,
-            order: filled,
-            raised: q.raised,
-        };
-    }
-    FilledOrder {
-        outcome: Outcome::Ran,
-        venue: v,
-        order: filled,
-        raised: q.raised,
-    }
+    remove_expiry(s, order.id);
+    await_marked(s, order)
 }
 
-// What the row fills of an order.
-pub fn lots_of(mode: FillMode, row: KernelTick, order: VenueOrder) -> Lots
-    ensures { rule_fills result ≡ fills_of mode row order }
+// The terminal orders leave: as many looks as orders. Where one left, the next stands at its place.
+fn sweep(s: &mut KernelState) -> Result<(), HaltReason>
+    ensures { run_of result s.new ≡ sweep s.old }
 {
-    if !matches(row, order) {
-        return Lots::Nothing;
-    }
-    let lots = fill_lots(mode, row, order);
-    let MaybeU64::Some(n) = lots else {
-        return Lots::Fail;
-    };
-    if n == 0 {
-        return Lots::Nothing;
-    }
-    Lots::Take(order, n)
-}
-
-// How many orders the match pass looks at: all; none where the count is above the capacity.
-pub fn looks(count: usize) -> usize
-    ensures { result ≡ looks_at count }
-{
-    if count > orders::CAPACITY {
-        return 0;
-    }
-    count
-}
-
-fn terminal_at(orders: Orders, index: usize) -> bool
-    ensures { (s : KernelState) → result ≡ terminal_at index (with_orders s orders) }
-{
-    let got = orders.get(index);
-    let MaybeOrder::Some(order) = got else {
-        return false;
-    };
-    let state = order.state;
-    state.is_terminal()
-}
-
-// The order at a place leaves, with its expiry, to awaiting if a cancel is in flight.
-fn leave(index: usize, orders: Orders, msgs: Msgs, awaiting: Orders) -> Swept
-    ensures { (s : KernelState) (n : ℕ) (w : List ℕ) → actual (swept_in s n result) w ≡ expected (log_at w n) (leave index (with_swept s orders msgs awaiting)) }
-{
-    let taken = orders.remove(index);
-    let got = taken.got;
-    let MaybeOrder::Some(order) = got else {
-        return Swept {
-            outcome: Outcome::Ran,
-            orders,
-            msgs,
-            awaiting,
-        };
-    };
-    let rest = taken.list;
-    let fewer = remove_expiry(order.id, msgs);
-    if !order.cancel_inflight {
-        return Swept {
-            outcome: Outcome::Ran,
-            orders: rest,
-            msgs: fewer,
-            awaiting,
-        };
-    }
-    let put = awaiting.insert_by_id(order);
-    if !put.ok {
-        return Swept {
-            outcome: Outcome::Halt(HaltReason::CounterOverflow),
-            orders: rest,
-            msgs: fewer,
-            awaiting,
-        };
-    }
-    let list = put.list;
-    Swept {
-        outcome: Outcome::Ran,
-        orders: rest,
-        msgs: fewer,
-        awaiting: list,
-    }
-}
-
-// The terminal orders leave. A pass has as many looks as there are orders; where one left, the next stands at its place.
-pub fn sweep(orders: Orders, msgs: Msgs, awaiting: Orders) -> Swept
-    ensures { (s : KernelState) (n : ℕ) (w : List ℕ) → actual (swept_in s n result) w ≡ expected (log_at w n) (sweep_from orders.count 0 (with_swept s orders msgs awaiting)) }
-{
-    let looks = orders.count;
-    if looks > orders::CAPACITY {
-        return Swept {
-            outcome: Outcome::Ran,
-            orders,
-            msgs,
-            awaiting,
-        };
-    }
-    let mut o = orders;
-    let mut m = msgs;
-    let mut a = awaiting;
+    let looks = s.orders.count.min(orders::CAPACITY);
     let mut place = 0;
-    let mut k = 0;
-    while k < looks {
-        if terminal_at(o, place) {
-            let left = leave(place, o, m, a);
-            let outcome = left.outcome;
-            let Outcome::Ran = outcome else {
-                return left;
-            };
-            o = left.orders;
-            m = left.msgs;
-            a = left.awaiting;
-            k += 1;
-            continue;
+    for _look in 0..looks {
+        if terminal_at(place, s) {
+            leave(place, s)?;
+        } else {
+            place += 1;
         }
-        place += 1;
-        k += 1;
     }
-    Swept {
-        outcome: Outcome::Ran,
-        orders: o,
-        msgs: m,
-        awaiting: a,
+    Ok(())
+}
+
+// The gate keeps the doubled mid of a row that has one.
+#[tactic(auto, unfolding(rules::specs::Matching::gate_marked, numbers::specs::Choice::pick))]
+fn mark(gate: &mut GateState, mid2: u64)
+    ensures { gate.new ≡ gate_marked mid2 gate.old }
+{
+    if mid2 > 0 {
+        gate.mark2 = Some(mid2);
     }
 }
 
-// Whether an order of the list is terminal. Where none is, the sweep changes nothing, and is skipped.
-pub fn any_terminal(orders: Orders) -> bool
-    ensures { result ≡ any_terminal orders }
+// A row: its mid marks the gate, it is matched, and the orders that have ended leave.
+pub fn match_row(
+    cfg: &Config,
+    row: &KernelTick,
+    s: &mut KernelState,
+    log: &mut Log,
+) -> Result<(), HaltReason>
+    ensures { actual (halting result) s.new (log_of log.new) ≡ expected (log_of log.old) (match_row cfg.now row.now s.old) }
 {
-    let list = orders;
-    let count = list.count;
-    if count > orders::CAPACITY {
-        return false;
-    }
-    for i in 0..count {
-        let order = list.slots[i];
-        let state = order.state;
-        if state.is_terminal() {
-            return true;
-        }
-    }
-    false
+    let mid2 = checked_add(row.bid, row.ask).ok_or(HaltReason::LedgerOverflow)?;
+    mark(&mut s.gate, mid2);
+    match_orders(cfg, row, s, log)?;
+    sweep(s)
 }

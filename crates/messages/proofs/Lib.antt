@@ -1,2 +1,1 @@
-pub mod EditExits
-pub mod ActExits
+pub mod First

@@ -1,148 +1,57 @@
-// The venue's messages: the first one leaves, then acts. What it does is a deed; here the lists are changed by it.
+// The venue's messages: the first one leaves, then acts.
 #![tactic(auto)]
 
 ghost use Rattle.std.specs.Prelude.{◌≡◌};
+ghost use Rattle.book.specs.declared.config.Config.{Config};
 ghost use Rattle.state.specs.declared.KernelState.{KernelState};
-ghost use Rattle.state.specs.With.{with_msgs};
-ghost use Rattle.rules.specs.Messages.{remove_expiry, apply_next_msg};
-ghost use Rattle.reports.specs.Log.{log_at, expected, actual};
-ghost use Rattle.reports.specs.Report.{with_venue};
-ghost use Rattle.deeds.specs.Deeds.{edit_orders, edit_awaiting, edit_msgs, with_lists};
-ghost use Rattle.messages.specs.Acts.{acted_in};
+ghost use Rattle.rules.specs.Messages.{activate, activation, acts, apply_next_msg};
+ghost use Rattle.reports.specs.Log.{log_of, expected, actual, halting};
+ghost use Rattle.messages.specs.Acts.{on_expiry, acts_at};
 
 use book::config::Config;
-use deeds::{
-    Counts, Expiry, MsgEdit, OrderEdit, deed_of, expiry_edit, expiry_of, halted, ran, time_of,
-};
-use msgs::{MaybeMsg, Msgs};
-use orders::Orders;
-use reports::Venue;
-use reports::report::Told;
+use book::{MsgKind, VenueMsg, VenueOrder};
+use deeds::activation::{activate, is_valid};
+use deeds::cancel::cancel;
+use deeds::expiry::expire;
+use numbers::words::checked_add;
+use reports::log::Log;
+use state::{HaltReason, KernelState};
 
-// What a message changes of the state.
-#[derive(Clone, Copy)]
-pub struct Acted {
-    pub told: Told,
-    pub orders: Orders,
-    pub msgs: Msgs,
-    pub awaiting: Orders,
+// The time of the expiry of an order with a life, if it is valid. There is to be a number for it, too.
+#[tactic(auto, unfolding(rules::specs::Messages::activation, numbers::specs::Choice::pick, numbers::specs::Choice::on_some, numbers::specs::Words::fitting))]
+fn expiry_after(s: &KernelState, order: &VenueOrder, life: u64) -> Result<Option<u64>, HaltReason>
+    ensures { (c : Config) (t : KernelState) → on_expiry result s.now (λ at. activate c order.now at t) ≡ activation c order.now life s.now t }
+{
+    if !is_valid(order) || life == 0 {
+        return Ok(None);
+    }
+    let at = checked_add(order.active_after_ns, life).ok_or(HaltReason::TimeOverflow)?;
+    checked_add(s.seqs.next_msg_seq, 1).ok_or(HaltReason::CounterOverflow)?;
+    Ok(Some(at))
 }
 
-fn edit_orders(edit: OrderEdit, list: Orders) -> Orders
-    ensures { result ≡ edit_orders edit list }
+// When the order that a message activates expires, if it does.
+fn expiry_of(s: &KernelState, msg: &VenueMsg) -> Result<Option<u64>, HaltReason>
+    ensures { (c : Config) (t : KernelState) → on_expiry result s.now (λ at. acts_at c msg.now.kind at t) ≡ acts c msg.now.kind s.now t }
 {
-    match edit {
-        OrderEdit::Keep => list,
-        OrderEdit::Comes(order) => {
-            let put = list.push(order);
-            put.list
-        }
-        OrderEdit::Goes(index) => {
-            let taken = list.remove(index);
-            taken.list
-        }
+    match msg.kind {
+        MsgKind::Activate { order, life } => expiry_after(s, &order, life),
+        MsgKind::Cancel { .. } | MsgKind::Expire { .. } => Ok(None),
     }
 }
 
-fn edit_awaiting(edit: OrderEdit, list: Orders) -> Orders
-    ensures { result ≡ edit_awaiting edit list }
+// The expiry's time, and room for its number, are tested before the message leaves: a halt there leaves it in the queue, and no active order lacks the expiry that its quote asked for.
+pub fn apply_next_msg(cfg: &Config, s: &mut KernelState, log: &mut Log) -> Result<(), HaltReason>
+    ensures { actual (halting result) s.new (log_of log.new) ≡ expected (log_of log.old) (apply_next_msg cfg.now s.old) }
 {
-    match edit {
-        OrderEdit::Keep => list,
-        OrderEdit::Comes(order) => {
-            let put = list.insert_by_id(order);
-            put.list
-        }
-        OrderEdit::Goes(index) => {
-            let taken = list.remove(index);
-            taken.list
-        }
-    }
-}
-
-fn edit_msgs(edit: MsgEdit, list: Msgs) -> Msgs
-    ensures { result ≡ edit_msgs edit list }
-{
-    match edit {
-        MsgEdit::Keep => list,
-        MsgEdit::Comes(msg) => {
-            let put = list.insert_by_key(msg);
-            put.list
-        }
-        MsgEdit::Goes(index) => {
-            let taken = list.remove(index);
-            taken.list
-        }
-    }
-}
-
-fn done(told: Told, orders: Orders, msgs: Msgs, awaiting: Orders) -> Acted
-    ensures { result ≡ record { told = told; orders = orders; msgs = msgs; awaiting = awaiting } }
-{
-    Acted {
-        told,
-        orders,
-        msgs,
-        awaiting,
-    }
-}
-
-// The first message leaves, then acts; `waiting` deliveries are on their way before its own.
-pub fn act(
-    log: &mut [u64],
-    raised: u64,
-    cfg: Config,
-    v: Venue,
-    orders: Orders,
-    msgs: Msgs,
-    awaiting: Orders,
-    waiting: usize,
-) -> Acted
-    ensures { (s : KernelState) → waiting ≡ s.deliveries.count → actual (acted_in s result) log.new ≡ expected (log_at log.old raised) (apply_next_msg cfg (with_venue (with_lists s orders msgs awaiting) v)) }
-{
-    let taken = msgs.pop_front();
-    let got = taken.got;
-    let MaybeMsg::Some(msg) = got else {
-        return done(ran(v, raised), orders, msgs, awaiting);
+    let Some(first) = s.msgs.get(0) else {
+        return Ok(());
     };
-    let rest = taken.list;
-    let kind = msg.kind;
-    let e = expiry_of(kind, v.seqs.next_msg_seq);
-    if let Expiry::Fail(reason) = e {
-        return done(halted(reason, v, raised), orders, msgs, awaiting);
+    let expiry = expiry_of(s, &first)?;
+    s.msgs.pop_front();
+    match first.kind {
+        MsgKind::Activate { order, .. } => activate(cfg, s, order, expiry, log),
+        MsgKind::Cancel { id } => cancel(cfg, s, id, log),
+        MsgKind::Expire { id } => expire(cfg, s, id, log),
     }
-    let counts = Counts {
-        orders: orders.count,
-        msgs: rest.count,
-        awaiting: awaiting.count,
-        deliveries: waiting,
-    };
-    let d = deed_of(
-        log,
-        raised,
-        cfg,
-        kind,
-        time_of(e),
-        v,
-        orders,
-        rest,
-        awaiting,
-        counts,
-    );
-    let told = d.told;
-    let oe = d.orders;
-    let me = d.msgs;
-    let ae = d.awaiting;
-    let o = edit_orders(oe, orders);
-    let m = edit_msgs(me, rest);
-    let a = edit_awaiting(ae, awaiting);
-    done(told, o, m, a)
-}
-
-// The messages without the first expiry of the order.
-pub fn remove_expiry(id: u64, msgs: Msgs) -> Msgs
-    ensures { (s : KernelState) → with_msgs s result ≡ remove_expiry id (with_msgs s msgs) }
-{
-    let edit = expiry_edit(id, msgs);
-    edit_msgs(edit, msgs)
 }

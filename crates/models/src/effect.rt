@@ -4,10 +4,10 @@ ghost use Rattle.numbers.specs.Choice.{pick};
 ghost use Rattle.rules.specs.Delivery.{awaits, closes, effect, on_delivery};
 ghost use Rattle.models.specs.Rules.{rule_effect};
 
-use account::AgentAccount;
-use book::{ExecKind, Found, OpenOrder, Origin, ReportRec};
+use account::{AgentAccount, position};
+use book::{ExecKind, OpenOrder, Origin, ReportRec};
 
-// What a report does to its order's entry.
+// What a report does to its order's entry: a name of the rules, said of the report alone.
 #[derive(Clone, Copy)]
 pub enum Effect {
     Stands,
@@ -15,55 +15,52 @@ pub enum Effect {
     Awaits,
 }
 
+#[tactic(auto, unfolding(numbers::specs::Choice::pick))]
 fn unless_pending(pending: bool) -> Effect
     ensures { rule_effect result ≡ pick pending awaits closes }
 {
     if pending {
-        return Effect::Awaits;
+        Effect::Awaits
+    } else {
+        Effect::Closes
     }
-    Effect::Closes
 }
 
 fn effect_of(kind: ExecKind, origin: Origin, pending: bool) -> Effect
     ensures { rule_effect result ≡ effect kind origin pending }
 {
     match kind {
-        ExecKind::Accepted => Effect::Stands,
+        ExecKind::Accepted | ExecKind::PartialFill => Effect::Stands,
+        ExecKind::CancelRejected => Effect::Closes,
         ExecKind::Rejected => match origin {
             Origin::Local => Effect::Closes,
             Origin::Venue => unless_pending(pending),
         },
-        ExecKind::Canceled => unless_pending(pending),
-        ExecKind::CancelRejected => Effect::Closes,
-        ExecKind::PartialFill => Effect::Stands,
-        ExecKind::Fill => unless_pending(pending),
+        ExecKind::Canceled | ExecKind::Fill => unless_pending(pending),
     }
 }
 
-pub fn on_delivery(account: AgentAccount, report: ReportRec) -> AgentAccount
-    ensures { result ≡ on_delivery report account }
+#[tactic(auto, unfolding(rules::specs::Delivery::on_delivery, numbers::specs::Choice::on_some))]
+pub fn on_delivery(account: &mut AgentAccount, report: &ReportRec)
+    ensures { account.new ≡ on_delivery report.now account.old }
 {
     let id = report.order_id;
-    let found = account.position(id);
-    let Found::At(index) = found else {
-        return account;
+    let Some(index) = position(account, id) else {
+        return;
     };
-    let kind = report.kind;
-    let origin = report.origin;
-    let effect = effect_of(kind, origin, report.cancel_pending);
-    match effect {
-        Effect::Stands => account,
+    match effect_of(report.kind, report.origin, report.cancel_pending) {
+        Effect::Stands => {}
         Effect::Closes => {
-            let taken = account.remove(index);
-            taken.list
+            account.remove(index);
         }
         Effect::Awaits => {
-            let entry = OpenOrder {
-                order_id: id,
-                awaiting_cancel_outcome: true,
-            };
-            let put = account.store(index, entry);
-            put.list
+            let _ = account.store(
+                index,
+                OpenOrder {
+                    order_id: id,
+                    awaiting_cancel_outcome: true,
+                },
+            );
         }
     }
 }

@@ -2,21 +2,14 @@
 ghost use Rattle.std.specs.Prelude.{◌≡◌};
 ghost use Rattle.rules.specs.Messages.{released};
 ghost use Rattle.rules.specs.Matching.{moved, gate_filled};
-ghost use Rattle.models.specs.Rules.{rule_gate};
 
 use book::Side;
-use numbers::position::{Moved, Position};
+use numbers::position::Position;
 use state::GateState;
 
-// The gate after a release or a fill, or that it does not pass.
-#[derive(Clone, Copy)]
-pub enum Gated {
-    Fail,
-    Done(GateState),
-}
-
 // A position after a fill: up for a buy, down for a sell.
-pub fn move_by(position: Position, side: Side, lots: u64) -> Moved
+#[tactic(auto, unfolding(book::specs::Entries::on_side))]
+pub fn move_by(position: Position, side: Side, lots: u64) -> Option<Position>
     ensures { result ≡ moved side position lots }
 {
     match side {
@@ -26,39 +19,33 @@ pub fn move_by(position: Position, side: Side, lots: u64) -> Moved
 }
 
 // Lots of a side are live no more.
-pub fn release(gate: GateState, side: Side, lots: u64) -> Gated
-    ensures { rule_gate result ≡ released side lots gate }
+#[tactic(auto, using(crate::proofs::Numbers::left_over), unfolding(rules::specs::Messages::released, book::specs::Entries::on_side, numbers::specs::Choice::pick))]
+pub fn release(gate: GateState, side: Side, lots: u64) -> Option<GateState>
+    ensures { result ≡ released side lots gate }
 {
     match side {
         Side::Buy => {
-            if gate.live_buy_lots < lots {
-                return Gated::Fail;
-            }
-            let mut next = gate;
-            next.live_buy_lots = gate.live_buy_lots - lots;
-            Gated::Done(next)
+            let live_buy_lots = gate.live_buy_lots.checked_sub(lots)?;
+            Some(GateState {
+                live_buy_lots,
+                ..gate
+            })
         }
         Side::Sell => {
-            if gate.live_sell_lots < lots {
-                return Gated::Fail;
-            }
-            let mut next = gate;
-            next.live_sell_lots = gate.live_sell_lots - lots;
-            Gated::Done(next)
+            let live_sell_lots = gate.live_sell_lots.checked_sub(lots)?;
+            Some(GateState {
+                live_sell_lots,
+                ..gate
+            })
         }
     }
 }
 
 // Lots of a side are filled.
-pub fn fill(gate: GateState, side: Side, lots: u64) -> Gated
-    ensures { rule_gate result ≡ gate_filled side lots gate }
+#[tactic(auto, unfolding(rules::specs::Matching::gate_filled, numbers::specs::Choice::on_some))]
+pub fn fill(gate: GateState, side: Side, lots: u64) -> Option<GateState>
+    ensures { result ≡ gate_filled side lots gate }
 {
-    let position = gate.venue_pos;
-    let to = move_by(position, side, lots);
-    let Moved::To(venue_pos) = to else {
-        return Gated::Fail;
-    };
-    let mut next = gate;
-    next.venue_pos = venue_pos;
-    release(next, side, lots)
+    let venue_pos = move_by(gate.venue_pos, side, lots)?;
+    release(GateState { venue_pos, ..gate }, side, lots)
 }

@@ -1,3 +1,3 @@
 pub mod Fitting
+pub mod Moves
 pub mod Products
-pub mod Signed

@@ -23,24 +23,15 @@ by_halves a b =
     ap₂ ◌*◌ (sym (div-add-mod' a 4294967296)) (sym (div-add-mod' b 4294967296))
     ∙ columns (a / 4294967296) (a % 4294967296) (b / 4294967296) (b % 4294967296)
 
--- each of the four is small
+-- those that have a lower half in them are small
 pub record Halves (a b : ℕ) : Type 0 where
-  pub hh : (a / 4294967296) * (b / 4294967296) ≤ 18446744065119617025
   pub hl : (a / 4294967296) * (b % 4294967296) ≤ 18446744065119617025
   pub lh : (a % 4294967296) * (b / 4294967296) ≤ 18446744065119617025
   pub ll : (a % 4294967296) * (b % 4294967296) ≤ 18446744065119617025
 
 pub halves : (a b : ℕ) → Fits w64 a → Fits w64 b → Halves a b
 halves a b fa fb = record {
-  hh = half (a / 4294967296) (b / 4294967296) (omega arith) (omega arith);
   hl = half (a / 4294967296) (b % 4294967296) (omega arith) (omega arith);
   lh = half (a % 4294967296) (b / 4294967296) (omega arith) (omega arith);
   ll = half (a % 4294967296) (b % 4294967296) (omega arith) (omega arith);
 }
-
--- what the high word says of a product p
-pub no-high : (p h : ℕ) → h ≡ p / 18446744073709551616 → h ≡ 0 → p < 18446744073709551616
-no-high p h e z = omega arith
-
-pub some-high : (p h : ℕ) → h ≡ p / 18446744073709551616 → (h ≡ 0 → ⊥) → 18446744073709551616 ≤ p
-some-high p h e z = omega arith

@@ -1,1 +1,2 @@
-pub mod PhasesExits
+mod Exits
+mod Loop

@@ -16,7 +16,7 @@ use Rattle.numbers.specs.Choice.{pick}
 use Rattle.state.specs.declared.KernelEvent.{KernelEvent}
 use Rattle.state.specs.declared.KernelEvent.TheVariants.{Report, Fill, Delivered, Observed, RowEnd, EndOfData, Halted, DroppedMsg, Expired, DroppedExpiry}
 use Rattle.rules.specs.Log.{event_words, written}
-use Rattle.reports.specs.Log.{top, Log, log_at, append_event, append_events}
+use Rattle.reports.specs.Log.{top, Logged, append_event, append_events}
 
 -- a turn of the loop that copies s over the front of d
 pub copy_turn : (d s : List ℕ) (j : ℕ) → j < length d → j < length s
@@ -63,25 +63,29 @@ lent xs ys a e h hy =
     let q : drop (length xs - a) (drop a xs) ≡ [] = drop_of_length-le (drop a xs) l in
     rw (hy, q, p, append-nil)
 
+-- the log of these words, of the slice a
+abbrev logged : ℕ → List ℕ → ℕ → Logged
+logged a w n = record { words = w; count = n; lender = a }
+
 -- ---- emit: an event that is written; one past the room; one past the largest count
-pub append-written : (xs ys : List ℕ) (n : ℕ) (e : KernelEvent) → n < top → ys ≡ take (n * 12) xs ++ written (drop (n * 12) xs) (e ∷ []) → log_at ys (n + 1) ≡ append_event (log_at xs n) e
+pub append-written : (a : ℕ) (xs ys : List ℕ) (n : ℕ) (e : KernelEvent) → n < top → ys ≡ take (n * 12) xs ++ written (drop (n * 12) xs) (e ∷ []) → logged a ys (n + 1) ≡ append_event (logged a xs n) e
 unfolding append_event pick
-append-written xs ys n e h k =
+append-written a xs ys n e h k =
     let c : min (n + 1) top ≡ n + 1 = omega arith in
     rw (k, lt-ltb n top h, c)
 
-pub append-past : (xs : List ℕ) (n : ℕ) (e : KernelEvent) → n < top → length xs / 12 ≤ n → log_at xs (n + 1) ≡ append_event (log_at xs n) e
-append-past xs n e h k =
+pub append-past : (a : ℕ) (xs : List ℕ) (n : ℕ) (e : KernelEvent) → n < top → length xs / 12 ≤ n → logged a xs (n + 1) ≡ append_event (logged a xs n) e
+append-past a xs n e h k =
     let l : length (drop (n * 12) xs) < 12 = simp length-drop (omega arith) in
-    append-written xs xs n e h (rw (no_room (drop (n * 12) xs) e l) (sym (take-append-drop (n * 12) xs)))
+    append-written a xs xs n e h (rw (no_room (drop (n * 12) xs) e l) (sym (take-append-drop (n * 12) xs)))
 
-pub append-full : (xs : List ℕ) (n : ℕ) (e : KernelEvent) → n ≡ top → log_at xs n ≡ append_event (log_at xs n) e
+pub append-full : (a : ℕ) (xs : List ℕ) (n : ℕ) (e : KernelEvent) → n ≡ top → logged a xs n ≡ append_event (logged a xs n) e
 unfolding append_event pick
-append-full xs n e h =
+append-full a xs n e h =
     rw h
 
 -- ---- appended one by one
-pub appended_append : (l : Log) (es fs : List KernelEvent) → append_events (append_events l es) fs ≡ append_events l (es ++ fs)
+pub appended_append : (l : Logged) (es fs : List KernelEvent) → append_events (append_events l es) fs ≡ append_events l (es ++ fs)
 unfolding append_events
 appended_append l [] fs = refl
 appended_append l (e ∷ es) fs = appended_append (append_event l e) es fs
@@ -113,18 +117,18 @@ one_more n w e es false h =
     rw (h, front (take (n * 12) w) (event_words e) (drop 12 (drop (n * 12) w)) ((n + 1) * 12) q, back (take (n * 12) w) (event_words e) (drop 12 (drop (n * 12) w)) ((n + 1) * 12) q)
     (append_assoc (take (n * 12) w) (event_words e) (written (drop 12 (drop (n * 12) w)) es))
 
-appended_from : (n : ℕ) (w : List ℕ) (es : List KernelEvent) → n + length es ≤ top
-    → append_events (log_at w n) es ≡ log_at (take (n * 12) w ++ written (drop (n * 12) w) es) (n + length es)
+appended_from : (a : ℕ) (n : ℕ) (w : List ℕ) (es : List KernelEvent) → n + length es ≤ top
+    → append_events (logged a w n) es ≡ logged a (take (n * 12) w ++ written (drop (n * 12) w) es) (n + length es)
 unfolding append_events
-appended_from n w [] h = unfold written in rw (take-append-drop (n * 12) w, add-zero)
-appended_from n w (e ∷ es) h =
+appended_from a n w [] h = unfold written in rw (take-append-drop (n * 12) w, add-zero)
+appended_from a n w (e ∷ es) h =
     let v : List ℕ = take (n * 12) w ++ written (drop (n * 12) w) (e ∷ []) in
     let c : n + 1 + length es ≡ n + suc (length es) = omega arith in
-    rw (← (append-written w v n e (omega arith) refl)) (appended_from (n + 1) v es (omega arith) ∙ rw (one_more n w e es (ltb (length (drop (n * 12) w)) 12) refl, c))
+    rw (← (append-written a w v n e (omega arith) refl)) (appended_from a (n + 1) v es (omega arith) ∙ rw (one_more n w e es (ltb (length (drop (n * 12) w)) 12) refl, c))
 
 -- a whole call
-pub appended_all : (w : List ℕ) (es : List KernelEvent) → length es ≤ top → append_events (log_at w 0) es ≡ log_at (written w es) (length es)
-appended_all w es h = appended_from 0 w es (omega arith) ∙ rw zero-add
+pub appended_all : (a : ℕ) (w : List ℕ) (es : List KernelEvent) → length es ≤ top → append_events (logged a w 0) es ≡ logged a (written w es) (length es)
+appended_all a w es h = appended_from a 0 w es (omega arith) ∙ rw zero-add
 
 -- a number of 64 bits that is not the largest is below it
 pub below_top : (n : ℕ) → (n ≡ top → ⊥) → Fits w64 n → n < top

@@ -1,3 +1,3 @@
 pub mod Append
 pub mod Then
-pub mod ReportExits
+pub mod Reports

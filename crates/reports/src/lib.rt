@@ -4,31 +4,23 @@
 pub mod log;
 pub mod report;
 
-use state::{Clock, Counters, GateState, HaltReason, KernelState, Seqs};
+ghost use Rattle.std.specs.Prelude.{◌≡◌};
+ghost use Rattle.reports.specs.declared.Stop.TheVariants as stop;
 
-// How a step went: to its end; left by an observation that paused or truncated; halted; or at the end of the data.
-#[derive(Clone, Copy)]
-pub enum Outcome {
-    Ran,
+use state::HaltReason;
+
+// Why a step did not run to its end: an observation paused or truncated the run, it halted, or the data ended. What follows it is not done.
+#[derive(Clone, Copy, PartialEq, Eq)]
+pub enum Stop {
     Left,
     Halt(HaltReason),
     Ended,
 }
 
-// What a step over the whole state gives: how it went, the state, and how many events the call has raised so far.
-#[derive(Clone, Copy)]
-pub struct Step {
-    pub outcome: Outcome,
-    pub state: KernelState,
-    pub raised: u64,
-}
+impl From<HaltReason> for Stop {
+    ghost from_gives = { λ reason why. why ≡ stop.Halt reason };
 
-// What the venue's steps change of the state beside the lists.
-#[derive(Clone, Copy)]
-pub struct Venue {
-    pub rng_latency: u64,
-    pub clock: Clock,
-    pub seqs: Seqs,
-    pub gate: GateState,
-    pub counters: Counters,
+    fn from(reason: HaltReason) -> Stop {
+        Stop::Halt(reason)
+    }
 }

@@ -1,43 +1,68 @@
 // The log writer.
 ghost use Rattle.std.specs.Prelude.{◌≡◌, [], ◌∷◌};
 ghost use Rattle.rules.specs.Log.{report_words, fill_words, short_words, event_words, written};
-ghost use Rattle.reports.specs.Log.{log_at, append_event};
+ghost use Rattle.reports.specs.Log.{log_of, append_event};
 
-use book::{FillRec, ReportRec, flag_number};
+use book::{FillRec, ReportRec};
 use state::KernelEvent;
 
-fn report_words(kind: u64, r: ReportRec) -> [u64; 12]
+// The words of a record.
+pub const WORDS: usize = 12;
+
+// The log that a caller lent, and how many events were raised on it.
+#[derive(Drop)]
+pub struct Log<'a> {
+    pub words: &'a mut [u64],
+    pub raised: u64,
+}
+
+// `kind` is the number with which the log names the event.
+fn report_words(kind: u64, r: ReportRec) -> [u64; WORDS]
     ensures { result ≡ report_words kind r }
 {
-    let side = r.side;
-    let exec = r.kind;
-    let origin = r.origin;
-    let s = side.number();
-    let e = exec.number();
-    let o = origin.number();
-    let p = flag_number(r.cancel_pending);
     [
-        kind, r.ts_ns, r.seq, r.order_id, s, e, o, p, r.price, r.qty, r.last, r.cum,
+        kind,
+        r.ts_ns,
+        r.seq,
+        r.order_id,
+        u64::from(r.side),
+        u64::from(r.kind),
+        u64::from(r.origin),
+        u64::from(r.cancel_pending),
+        r.price,
+        r.qty,
+        r.last,
+        r.cum,
     ]
 }
 
-fn fill_words(f: FillRec) -> [u64; 12]
+fn fill_words(f: FillRec) -> [u64; WORDS]
     ensures { result ≡ fill_words f }
 {
-    let side = f.side;
-    let s = side.number();
     [
-        2, f.ts_ns, f.exec_id, f.order_id, s, f.price, f.qty, 0, 0, 0, 0, 0,
+        2,
+        f.ts_ns,
+        f.exec_id,
+        f.order_id,
+        u64::from(f.side),
+        f.price,
+        f.qty,
+        0,
+        0,
+        0,
+        0,
+        0,
     ]
 }
 
-fn short_words(kind: u64, a: u64, b: u64) -> [u64; 12]
+fn short_words(kind: u64, a: u64, b: u64) -> [u64; WORDS]
     ensures { result ≡ short_words kind a b }
 {
     [kind, a, b, 0, 0, 0, 0, 0, 0, 0, 0, 0]
 }
 
-fn event_words(e: KernelEvent) -> [u64; 12]
+#[tactic(auto, unfolding(rules::specs::Log::event_words))]
+fn event_words(e: KernelEvent) -> [u64; WORDS]
     ensures { result ≡ event_words e }
 {
     match e {
@@ -50,12 +75,8 @@ fn event_words(e: KernelEvent) -> [u64; 12]
             dropped_msgs,
             dropped_obs,
         } => short_words(6, dropped_msgs, dropped_obs),
-        KernelEvent::Halted(reason) => short_words(7, reason.number(), 0),
-        KernelEvent::DroppedMsg { order_id, cancel } => short_words(
-            8,
-            order_id,
-            flag_number(cancel),
-        ),
+        KernelEvent::Halted(reason) => short_words(7, u64::from(reason), 0),
+        KernelEvent::DroppedMsg { order_id, cancel } => short_words(8, order_id, u64::from(cancel)),
         KernelEvent::Expired { order_id, at_ns } => short_words(9, order_id, at_ns),
         KernelEvent::DroppedExpiry { order_id } => short_words(10, order_id, 0),
     }
@@ -65,30 +86,28 @@ fn event_words(e: KernelEvent) -> [u64; 12]
 fn write_event(rest: &mut [u64], e: KernelEvent)
     ensures { rest.new ≡ written rest.old (e ∷ []) }
 {
-    if rest.len() < 12 {
+    if rest.len() < WORDS {
         return;
     }
-    let w = event_words(e);
-    let mut i = 0;
-    while i < 12 {
-        rest[i] = w[i];
-        i += 1;
-    }
+    let words = event_words(e);
+    rest[..WORDS].copy_from_slice(&words);
 }
 
-// The event behind the `raised` ones before it: the log's part from the next record on is lent to its writer. The count stays at its largest number, which a call never reaches.
-pub fn emit(log: &mut [u64], raised: u64, e: KernelEvent) -> u64
-    ensures { log_at log.new result ≡ append_event (log_at log.old raised) e }
-{
-    if raised == u64::MAX {
-        return raised;
+impl<'a> Log<'a> {
+    // The event behind those before it: the part from the next record on is lent to its writer. The count stays at its largest number, which a call never reaches.
+    pub fn emit(&mut self, e: KernelEvent)
+        ensures { log_of self.new ≡ append_event (log_of self.old) e }
+    {
+        let raised = self.raised;
+        if raised == u64::MAX {
+            return;
+        }
+        self.raised = raised + 1;
+        let words = &mut *self.words;
+        let nth = raised as usize;
+        if nth < words.len() / WORDS {
+            let at = nth * WORDS;
+            write_event(&mut words[at..], e);
+        }
     }
-    let room = log.len() / 12;
-    let nth = raised as usize;
-    let next = raised + 1;
-    if nth < room {
-        let at = nth * 12;
-        write_event(&mut log[at..], e);
-    }
-    next
 }

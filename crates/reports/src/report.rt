@@ -1,80 +1,54 @@
 // Stamps, and a report with its delivery.
-ghost use Rattle.std.specs.Prelude.{◌≡◌, List, ℕ};
+ghost use Rattle.std.specs.Prelude.{◌≡◌, ℕ, IfOk};
 ghost use Rattle.state.specs.declared.KernelState.{KernelState};
-ghost use Rattle.state.specs.With.{with_seqs};
-ghost use Rattle.rules.specs.Report.{stamp, report_at, reported, queue_delivery};
-ghost use Rattle.reports.specs.Log.{log_at, expected, actual};
-ghost use Rattle.reports.specs.Report.{stamped_in, reported_in, with_report, with_venue, told_in};
+ghost use Rattle.rules.specs.Run.{Run};
+ghost use Rattle.rules.specs.Report.{stamp, report_at, delayed, queue_delivery};
+ghost use Rattle.reports.specs.Log.{log_of, expected, actual, halting, run_of};
+ghost use Rattle.reports.specs.Report.{stamp_of, at_time};
 
-use super::log::emit;
-use super::{Outcome, Venue};
+use super::log::Log;
 use book::config::Config;
-use book::{Delivery, ExecKind, MaybeFill, Origin, ReportRec, VenueOrder};
-use deliveries::MaybeDelivery;
-use models::latency::delayed;
-use numbers::MaybeU64;
-use numbers::words::{checked_add, max};
-use state::{Clock, HaltReason, KernelEvent, Seqs};
+use book::{Delivery, ExecKind, FillRec, Origin, ReportRec, VenueOrder};
+use models::latency;
+use numbers::words::checked_add;
+use state::{HaltReason, KernelEvent, KernelState};
 
-// What a stamp changes.
+// The time and the number that a report carries.
 #[derive(Clone, Copy)]
 pub struct Stamped {
-    pub outcome: Outcome,
-    pub seqs: Seqs,
+    pub ts_ns: u64,
+    pub seq: u64,
 }
 
-// What a report changes: the clock's `last_delivery_ns` is the time of its delivery.
-#[derive(Clone, Copy)]
-pub struct Reported {
-    pub outcome: Outcome,
-    pub rng_latency: u64,
-    pub clock: Clock,
-    pub raised: u64,
-}
-
-// A report that was told, with its delivery where it is on its way.
-#[derive(Clone, Copy)]
-pub struct Told {
-    pub outcome: Outcome,
-    pub venue: Venue,
-    pub sent: MaybeDelivery,
-    pub raised: u64,
-}
-
-// A stamp takes a number: it is read off the sequence numbers before this.
-pub fn stamp(seqs: Seqs) -> Stamped
-    ensures { (s : KernelState) (n : ℕ) (w : List ℕ) → actual (stamped_in s n result) w ≡ expected (log_at w n) (stamp (with_seqs s seqs)) }
+// A stamp takes a number.
+#[tactic(auto, unfolding(rules::specs::Report::stamp, numbers::specs::Choice::on_some))]
+pub fn stamp(s: &mut KernelState) -> Result<Stamped, HaltReason>
+    ensures rule { run_of result s.new ≡ stamp s.old }
+    ensures answer { IfOk result (λ stamped. stamped ≡ stamp_of s.old) }
 {
-    let next = checked_add(seqs.stamp_seq, 1);
-    let MaybeU64::Some(stamp_seq) = next else {
-        let outcome = Outcome::Halt(HaltReason::CounterOverflow);
-        return Stamped { outcome, seqs };
+    let stamped = Stamped {
+        ts_ns: s.clock.now_ns,
+        seq: s.seqs.stamp_seq,
     };
-    let mut risen = seqs;
-    risen.stamp_seq = stamp_seq;
-    Stamped {
-        outcome: Outcome::Ran,
-        seqs: risen,
-    }
+    s.seqs.stamp_seq = checked_add(stamped.seq, 1).ok_or(HaltReason::CounterOverflow)?;
+    Ok(stamped)
 }
 
-// The report on an order, stamped (ts_ns, seq).
+// The report on an order by its stamp.
 pub fn status_report(
-    ts_ns: u64,
-    seq: u64,
-    order: VenueOrder,
+    stamped: Stamped,
+    order: &VenueOrder,
     kind: ExecKind,
     cancel_pending: bool,
     last: u64,
 ) -> ReportRec
-    ensures { result ≡ report_at ts_ns seq order kind cancel_pending last }
+    ensures { result ≡ report_at stamped.ts_ns stamped.seq order.now kind cancel_pending last }
 {
-    let side = order.side;
     ReportRec {
-        ts_ns,
-        seq,
+        ts_ns: stamped.ts_ns,
+        seq: stamped.seq,
         order_id: order.id,
-        side,
+        side: order.side,
         kind,
         origin: Origin::Venue,
         cancel_pending,
@@ -85,82 +59,30 @@ pub fn status_report(
     }
 }
 
-// The jitter delays a report but never lets it overtake an earlier one.
-pub fn report_on(
-    log: &mut [u64],
-    raised: u64,
-    cfg: Config,
-    report: ReportRec,
-    rng_latency: u64,
-    clock: Clock,
-) -> Reported
-    ensures { (s : KernelState) → actual (reported_in s result) log.new ≡ expected (log_at log.old raised) (reported cfg report (with_report s rng_latency clock)) }
+// The time that is a delay of `base_q` quanta and the jitter after `from`. The generator has moved also where that halts.
+pub fn delayed(cfg: &Config, s: &mut KernelState, from: u64, base_q: u64) -> Result<u64, HaltReason>
+    ensures { (k : ℕ → KernelState → Run) → at_time result s.new k ≡ delayed cfg.now from base_q s.old k }
 {
-    let arrival = delayed(cfg, rng_latency, report.ts_ns, cfg.ack_q);
-    let time = arrival.time;
-    let MaybeU64::Some(at) = time else {
-        return Reported {
-            outcome: Outcome::Halt(HaltReason::TimeOverflow),
-            rng_latency: arrival.rng,
-            clock,
-            raised,
-        };
-    };
-    let mut next = clock;
-    next.last_delivery_ns = max(at, clock.last_delivery_ns);
-    let n = emit(log, raised, KernelEvent::Report(report));
-    Reported {
-        outcome: Outcome::Ran,
-        rng_latency: arrival.rng,
-        clock: next,
-        raised: n,
-    }
+    latency::delayed(cfg, &mut s.rng_latency, from, base_q).ok_or(HaltReason::TimeOverflow)
 }
 
-// A report: its event, and its delivery, which joins those that wait. `waiting` of them are before it.
-pub fn tell(
-    log: &mut [u64],
-    raised: u64,
-    cfg: Config,
+// A report: its event, and its delivery behind those that wait. The jitter delays a report but never lets it overtake an earlier one.
+pub fn queue_delivery(
+    cfg: &Config,
+    s: &mut KernelState,
     report: ReportRec,
-    fill: MaybeFill,
-    venue: Venue,
-    waiting: usize,
-) -> Told
-    ensures { (s : KernelState) → waiting ≡ s.deliveries.count → actual (told_in s result) log.new ≡ expected (log_at log.old raised) (queue_delivery cfg report fill (with_venue s venue)) }
+    fill: Option<FillRec>,
+    log: &mut Log,
+) -> Result<(), HaltReason>
+    ensures { actual (halting result) s.new (log_of log.new) ≡ expected (log_of log.old) (queue_delivery cfg.now report fill s.old) }
 {
-    let clock = venue.clock;
-    let r = report_on(log, raised, cfg, report, venue.rng_latency, clock);
-    let next = r.clock;
-    let mut v = venue;
-    v.rng_latency = r.rng_latency;
-    v.clock = next;
-    let o = r.outcome;
-    let Outcome::Ran = o else {
-        return Told {
-            outcome: o,
-            venue: v,
-            sent: MaybeDelivery::None,
-            raised: r.raised,
-        };
-    };
-    if waiting >= deliveries::CAPACITY {
-        return Told {
-            outcome: Outcome::Halt(HaltReason::CounterOverflow),
-            venue: v,
-            sent: MaybeDelivery::None,
-            raised: r.raised,
-        };
-    }
-    let delivery = Delivery {
-        at_ns: next.last_delivery_ns,
+    let at_ns = delayed(cfg, s, report.ts_ns, cfg.ack_q)?.max(s.clock.last_delivery_ns);
+    s.clock.last_delivery_ns = at_ns;
+    log.emit(KernelEvent::Report(report));
+    s.deliveries.push(Delivery {
+        at_ns,
         report,
         fill,
-    };
-    Told {
-        outcome: Outcome::Ran,
-        venue: v,
-        sent: MaybeDelivery::Some(delivery),
-        raised: r.raised,
-    }
+    })?;
+    Ok(())
 }

@@ -1,19 +1,14 @@
 -- Runs that raise no more than so many events, and what holds where they ran to their end, and where they did not. Assumes nothing.
+use Rattle.std.specs.Prelude.{Option, Some, None}
 use Prim.Native.Nat.{ℕ, zero, suc, ◌+◌, ◌≤◌}
 use mathlib.Core.Bool.{Bool}
 use mathlib.Core.List.{List}
-use mathlib.Core.Option.{Option}
 use mathlib.Core.Path.{◌≡◌, refl}
 use native.Mathlib.Omega.{arith}
 use lib.ListN.{length, length-append}
-use Rattle.numbers.specs.Choice.{pick}
-use Rattle.numbers.specs.Words.{on_word}
-use Rattle.numbers.specs.Position.{on_moved}
-use Rattle.numbers.specs.declared.MaybeU64.{MaybeU64}
-use Rattle.numbers.specs.declared.position.Moved.{Moved}
-use Rattle.numbers.specs.declared.position.Moved.TheVariants.{Out, To}
+use Rattle.numbers.specs.Choice.{pick, on_some}
 use Rattle.numbers.specs.declared.position.Position.{Position}
-use Rattle.lists.specs.Lists.{Row, on_some, put_at, taken_at}
+use Rattle.lists.specs.Lists.{put_at, taken_at}
 use Rattle.lists.proofs.Cases.{pick_case, some_case}
 use Rattle.lists.proofs.Sums.{Added, Took, put_case, take_case}
 use Rattle.book.specs.declared.VenueMsg.{VenueMsg}
@@ -24,6 +19,7 @@ use Rattle.state.specs.declared.KernelState.{KernelState}
 use Rattle.rules.specs.Run.{Outcome, Run, ran, left, halt, ended, ran_to, raised, halt_at, on_ran, after, and_then, putting, taking, Turn, again, last, on_turn, iter}
 use Rattle.rules.proofs.Cases.{word_case}
 use Rattle.rules.proofs.Loop.{run_of}
+use Rattle.lists.specs.declared.Arr.{Arr}
 
 -- P of the state where it ran to its end, H where it did not
 abbrev pub EndsAt : (KernelState → Type 0) → (KernelState → Type 0) → Outcome → KernelState → Type 0
@@ -63,21 +59,21 @@ module _ {H : KernelState → Type 0} {P : ℕ → KernelState → Type 0} {n : 
   pub some_in : {A : Type 0} (o : Option A) {k : A → Run} {z : Run} → ((x : A) → Within H n P (k x)) → Within H n P z → Within H n P (on_some o k z)
   some_in o h g = some_case (Within H n P) o _ _ (λ x _. h x) (λ _. g)
 
-  pub word_in : (w : MaybeU64) {k : ℕ → Run} {z : Run} → ((q : ℕ) → Within H n P (k q)) → Within H n P z → Within H n P (on_word w k z)
+  pub word_in : (w : Option ℕ) {k : ℕ → Run} {z : Run} → ((q : ℕ) → Within H n P (k q)) → Within H n P z → Within H n P (on_some w k z)
   word_in w h g = word_case (Within H n P) w _ _ (λ q _. h q) (λ _. g)
 
-  pub moved_in : (w : Moved) {k : Position → Run} {z : Run} → ((q : Position) → Within H n P (k q)) → Within H n P z → Within H n P (on_moved w k z)
-  unfolding on_moved
-  moved_in Out h g = g
-  moved_in (To q) h g = h q
+  pub moved_in : (w : Option Position) {k : Position → Run} {z : Run} → ((q : Position) → Within H n P (k q)) → Within H n P z → Within H n P (on_some w k z)
+  unfolding on_some
+  moved_in None h g = g
+  moved_in (Some q) h g = h q
 
-  pub taking_in : {A : Type 0} {cap : ℕ} {d : A} {i : ℕ} {r : Row A} {k : A → Row A → Run} {z : Run}
-      → ((x : A) (l : Row A) → Took cap d i r x l → Within H n P (k x l)) → ((r.count ≤ cap → r.count ≤ i) → Within H n P z) → Within H n P (taking (taken_at cap d i r) k z)
+  pub taking_in : {A : Type 0} {size : ℕ} {cap : ℕ} {d : A} {i : ℕ} {r : Arr A size} {k : A → Arr A size → Run} {z : Run}
+      → ((x : A) (l : Arr A size) → Took cap d i r x l → Within H n P (k x l)) → ((r.count ≤ cap → r.count ≤ i) → Within H n P z) → Within H n P (taking (taken_at cap d i r) k z)
   unfolding taking on_some
   taking_in {k = k} {z = z} h g = take_case _ (λ t. Within H n P (on_some t.got (λ x. k x t.list) z)) _ _ _ h g
 
-  pub putting_in : {A : Type 0} {cap : ℕ} (i : ℕ) {v : A} {r : Row A} (k : Row A → KernelState) (s : KernelState)
-      → ((l : Row A) → Added cap v r l → P n (k l)) → H s → Within H n P (putting (put_at cap i v r) k s)
+  pub putting_in : {A : Type 0} {size : ℕ} {cap : ℕ} (i : ℕ) {v : A} {r : Arr A size} (k : Arr A size → KernelState) (s : KernelState)
+      → ((l : Arr A size) → Added cap v r l → P n (k l)) → H s → Within H n P (putting (put_at cap i v r) k s)
   unfolding putting pick
   putting_in i k s h g =
       put_case _ (λ p. Within H n P (pick p.ok (ran_to (k p.list)) (halt_at CounterOverflow s))) _ _ _ (λ l a. ran_in (h l a)) (halt_in g)

@@ -1,37 +1,34 @@
 -- What each step costs: the events that it raises, the deliveries and the messages that it leaves; and where it stops, it leaves the cursor and `cur_row`.
 -- The messages are weighed: each 2, and what more its kind weighs by f. Assumes nothing.
+use Rattle.std.specs.Prelude.{Option, Some, None}
 use Prim.Native.Nat.{ℕ, ◌+◌, ◌-◌, ◌*◌, ◌≤◌, ◌<◌}
 use mathlib.Core.Bool.{false}
 use mathlib.Core.Path.{◌≡◌, ap}
 use native.Mathlib.Omega.{arith}
-use Rattle.lists.specs.Lists.{Row, below, total}
+use Rattle.lists.specs.Lists.{below, total}
 use Rattle.lists.proofs.Cases.{some_case}
 use Rattle.lists.proofs.Sums.{Took, take_case}
 use Rattle.book.specs.Entries.{blank_order, blank_msg}
-use Rattle.orders.specs.Rows.{orders_row, orders_of}
-use Rattle.msgs.specs.Rows.{msgs_row, msgs_of}
-use Rattle.deliveries.specs.Rows.{deliveries_of}
 use Rattle.state.specs.With.{with_orders, with_msgs, with_deliveries}
 use Rattle.book.specs.declared.Delivery.{Delivery}
 use Rattle.book.specs.declared.ExecKind.TheVariants as exec
-use Rattle.book.specs.declared.MaybeFill.{MaybeFill}
-use Rattle.book.specs.declared.MaybeFill.TheVariants as fill
 use Rattle.book.specs.declared.MsgKind.{MsgKind}
 use Rattle.book.specs.declared.MsgKind.TheVariants.{Cancel, Activate, Expire}
 use Rattle.book.specs.declared.ReportRec.{ReportRec}
 use Rattle.book.specs.declared.VenueMsg.{VenueMsg}
 use Rattle.book.specs.declared.VenueOrder.{VenueOrder}
 use Rattle.book.specs.declared.config.Config.{Config}
-use Rattle.msgs.specs.declared.Msgs.{Msgs}
 use Rattle.state.specs.declared.KernelEvent.{KernelEvent}
 use Rattle.state.specs.declared.KernelState.{KernelState}
 use Rattle.state.specs.declared.Control.{Control}
-use Rattle.numbers.specs.declared.MaybeU64.{MaybeU64}
 use Rattle.rules.specs.Run.{ran_to, raised, and_then}
 use Rattle.rules.specs.Report.{stamp, delayed, push_delivery, reported, queue_delivery, report_on}
 use Rattle.rules.specs.Messages.{release, await, await_marked, book, schedule, remove_expiry, schedule_expiry, accept, reject, activate, activation, cancel_booked, on_activation, cancel_activation, cancel_awaiting, cancel, expire_booked, expire, acts, apply_next_msg}
 use Rattle.rules.specs.Delivery.{count_fill, move_agent, count_reject, deliver_next}
 use Rattle.rules.proofs.Bounded.{Within, ran_in, raised_in, halt_in, pick_in, some_in, word_in, moved_in, taking_in, putting_in, then_in, map_in}
+use Rattle.book.specs.declared.FillRec.{FillRec}
+use Rattle.msgs.specs.Rows.{Msgs}
+use Rattle.lists.specs.declared.Arr.{Arr}
 
 -- what a message weighs beyond 2
 abbrev pub more : (MsgKind → ℕ) → VenueMsg → ℕ
@@ -39,7 +36,7 @@ more f m = f m.kind
 
 -- what all of them weigh
 abbrev pub weighed : (MsgKind → ℕ) → Msgs → ℕ
-weighed f l = 2 * l.count + total (more f) (below (msgs_row l))
+weighed f l = 2 * l.count + total (more f) (below l)
 
 -- What is so between two steps, of the parts that matter: a step that leaves them keeps it as it stands.
 -- k is the control, o the observations. No more than h orders are booked and d deliveries queued, the messages weigh e less than w, and j of the n events that may follow are to spare.
@@ -86,7 +83,7 @@ module _ {f : MsgKind → ℕ} {k : Control} {h o w : ℕ} where
   push_in x s g = putting_in _ _ s
       (λ l a. record { at = g.at; room = g.room; few = g.few; seen = g.seen; light = g.light; held = omega (arith, g.held, a.one_more); spare = g.spare }) (stops g)
 
-  pub report_in : {e d n : ℕ} (j : ℕ) (c : Config) (r : ReportRec) (y : MaybeFill) (s : KernelState) → Stands f k h o w e d (j + 1) n s → Within (Stops f k w) n (Stands f k h o w e (d + 1) j) (queue_delivery c r y s)
+  pub report_in : {e d n : ℕ} (j : ℕ) (c : Config) (r : ReportRec) (y : Option FillRec) (s : KernelState) → Stands f k h o w e d (j + 1) n s → Within (Stops f k w) n (Stands f k h o w e (d + 1) j) (queue_delivery c r y s)
   unfolding queue_delivery reported delayed
   report_in j c r y s g = then_in (word_in _ (λ at. raise_in j _ _ g) (halt_in (stops g))) (λ m t g. push_in _ t g)
 
@@ -104,7 +101,7 @@ module _ {f : MsgKind → ℕ} {k : Control} {h o w : ℕ} where
   book_in x s g = putting_in _ _ s
       (λ l a. record { at = g.at; room = g.room; few = omega (arith, g.room, a.room); seen = g.seen; light = g.light; held = g.held; spare = g.spare }) (stops g)
 
-  expiry_in : {d j n : ℕ} (e : ℕ) (at : MaybeU64) (id : ℕ) (s : KernelState) → Stands f k h o w (e + (2 + f (Expire id))) d j n s → Within (Stops f k w) n (Stands f k h o w e d j) (schedule_expiry at id s)
+  expiry_in : {d j n : ℕ} (e : ℕ) (at : Option ℕ) (id : ℕ) (s : KernelState) → Stands f k h o w (e + (2 + f (Expire id))) d j n s → Within (Stops f k w) n (Stands f k h o w e d j) (schedule_expiry at id s)
   unfolding schedule_expiry schedule
   expiry_in {d} {j} e at id s g = word_in at
       (λ _. word_in _
@@ -112,14 +109,14 @@ module _ {f : MsgKind → ℕ} {k : Control} {h o w : ℕ} where
       (halt_in (stops g)))
       (ran_in (less e d j (omega arith) g))
 
-  pub fewer_in : {e d j n i : ℕ} (s : KernelState) (x : VenueOrder) (l : Row VenueOrder) → Took 8 blank_order i (orders_row s.orders) x l → Stands f k h o w e d j n s → Stands f k h o w e d j n (with_orders s (orders_of l))
+  pub fewer_in : {e d j n i : ℕ} (s : KernelState) (x : VenueOrder) (l : Arr VenueOrder 8) → Took 8 blank_order i s.orders x l → Stands f k h o w e d j n s → Stands f k h o w e d j n (with_orders s l)
   fewer_in s x l t g = record { at = g.at; room = g.room; few = omega (arith, g.few, t.one_less); seen = g.seen; light = g.light; held = g.held; spare = g.spare }
 
   -- ---- a delivery
-  move_in : {e d j n : ℕ} (y : MaybeFill) (s : KernelState) → Stands f k h o w e d j n s → Within (Stops f k w) n (Stands f k h o w e d j) (move_agent y s)
+  move_in : {e d j n : ℕ} (y : Option FillRec) (s : KernelState) → Stands f k h o w e d j n s → Within (Stops f k w) n (Stands f k h o w e d j) (move_agent y s)
   unfolding count_fill
-  move_in fill.None s g = ran_in g
-  move_in (fill.Some r) s g = moved_in _ (λ q. word_in _ (λ _. ran_in g) (halt_in (stops g))) (halt_in (stops g))
+  move_in None s g = ran_in g
+  move_in (Some r) s g = moved_in _ (λ q. word_in _ (λ _. ran_in g) (halt_in (stops g))) (halt_in (stops g))
 
   count_in : {e d j n : ℕ} (r : ReportRec) (s : KernelState) → Stands f k h o w e d j n s → Within (Stops f k w) n (Stands f k h o w e d j) (count_reject r s)
   unfolding count_reject
@@ -132,7 +129,7 @@ module _ {f : MsgKind → ℕ} {k : Control} {h o w : ℕ} where
   deliver_in {e = e} {d = d} {n = n} j s g p q = taking_in
       (λ x l t.
       let a = g (omega (arith, t.one_less)) in
-      let y : Stands f k h o w e d (j + 1) n (with_deliveries s (deliveries_of l))
+      let y : Stands f k h o w e d (j + 1) n (with_deliveries s l)
       = record { at = a.at; room = a.room; few = a.few; seen = a.seen; light = a.light; held = omega (arith, a.held, t.one_less); spare = a.spare } in
       map_in (λ u z. z) p (then_in (raise_in j _ _ y) (λ m u z. then_in (move_in x.fill u z) (λ m v z. then_in (count_in _ v z) (λ m y z. ran_in z)))))
       (λ e. ran_in (q e))
@@ -161,18 +158,18 @@ raises-most (Expire id) = omega arith
 -- a blank weighs 2
 module _ {f : MsgKind → ℕ} {k : Control} {h o w : ℕ} (blank : f (Cancel 0) ≡ 0) where
   -- a message came out: with it goes what it weighed
-  out_in : {e d j n i : ℕ} (s : KernelState) (m : VenueMsg) (l : Row VenueMsg) → Took 16 blank_msg i (msgs_row s.msgs) m l → Stands f k h o w e d j n s
-      → Stands f k h o w (e + (2 + more f m)) d j n (with_msgs s (msgs_of l))
+  out_in : {e d j n i : ℕ} (s : KernelState) (m : VenueMsg) (l : Arr VenueMsg 16) → Took 16 blank_msg i s.msgs m l → Stands f k h o w e d j n s
+      → Stands f k h o w (e + (2 + more f m)) d j n (with_msgs s l)
   out_in s m l t g = record { at = g.at; room = g.room; few = g.few; seen = g.seen; light = omega (arith, g.light, t.one_less, t.sums (more f) blank); held = g.held; spare = g.spare }
 
   pub removed_in : {e d j n : ℕ} (id : ℕ) (s : KernelState) → Stands f k h o w e d j n s → Stands f k h o w e d j n (remove_expiry id s)
   unfolding remove_expiry
   removed_in {e} {d} {j} {n} id s g = some_case (Stands f k h o w e d j n) _ _ _
-      (λ i _. take_case 16 (λ t. Stands f k h o w e d j n (with_msgs s (msgs_of t.list))) blank_msg i (msgs_row s.msgs) (λ m l t. less e d j (omega arith) (out_in s m l t g)) (λ _. g))
+      (λ i _. take_case 16 (λ t. Stands f k h o w e d j n (with_msgs s t.list)) blank_msg i s.msgs (λ m l t. less e d j (omega arith) (out_in s m l t g)) (λ _. g))
       (λ _. g)
 
   -- ---- what a message does: it sends one delivery at most
-  accept_in : {d n : ℕ} (e j : ℕ) (c : Config) (x : VenueOrder) (at : MaybeU64) (s t : KernelState) → Stands f k h o w (e + (2 + f (Expire x.id))) d (j + 1) n t → Within (Stops f k w) n (Stands f k h o w e (d + 1) j) (accept c x at s t)
+  accept_in : {d n : ℕ} (e j : ℕ) (c : Config) (x : VenueOrder) (at : Option ℕ) (s t : KernelState) → Stands f k h o w (e + (2 + f (Expire x.id))) d (j + 1) n t → Within (Stops f k w) n (Stands f k h o w e (d + 1) j) (accept c x at s t)
   unfolding accept
   accept_in e j c x at s t g = then_in (report_in j c _ _ t g) (λ m u g. then_in (book_in x u g) (λ m v g. expiry_in e at _ v g))
 
@@ -180,7 +177,7 @@ module _ {f : MsgKind → ℕ} {k : Control} {h o w : ℕ} (blank : f (Cancel 0)
   unfolding reject
   reject_in j c x s t g = then_in (release_in _ t g) (λ m u g. then_in (report_in j c _ _ u g) (λ m v g. await_in x v g))
 
-  activate_in : {d n : ℕ} (e j : ℕ) (c : Config) (x : VenueOrder) (at : MaybeU64) (s : KernelState) → Stands f k h o w (e + (2 + f (Expire x.id))) d (j + 1) n s → Within (Stops f k w) n (Stands f k h o w e (d + 1) j) (activate c x at s)
+  activate_in : {d n : ℕ} (e j : ℕ) (c : Config) (x : VenueOrder) (at : Option ℕ) (s : KernelState) → Stands f k h o w (e + (2 + f (Expire x.id))) d (j + 1) n s → Within (Stops f k w) n (Stands f k h o w e (d + 1) j) (activate c x at s)
   unfolding activate
   activate_in {d} e j c x at s g = then_in (stamp_in s g) (λ m t g. pick_in _ (accept_in e j c _ at s t g) (reject_in j c _ s t (less e d (j + 1) (omega arith) g)))
 
@@ -197,11 +194,11 @@ module _ {f : MsgKind → ℕ} {k : Control} {h o w : ℕ} (blank : f (Cancel 0)
   cancel_pending_in : {e d n : ℕ} (j : ℕ) (c : Config) (s : KernelState) (i : ℕ) (t : KernelState) → Stands f k h o w e d (j + 1) n t → Within (Stops f k w) n (Stands f k h o w e (d + 1) j) (cancel_activation c s i t)
   unfolding cancel_activation
   cancel_pending_in {e} {d} {n} j c s i t g = taking_in
-      (λ m l q. go m.kind (with_msgs t (msgs_of l)) (less e d (j + 1) (omega arith) (out_in t m l q g)))
+      (λ m l q. go m.kind (with_msgs t l) (less e d (j + 1) (omega arith) (out_in t m l q g)))
       (λ _. ran_in (less e (d + 1) j (omega arith) g))
     where
       go : (m : MsgKind) (u : KernelState) → Stands f k h o w e d (j + 1) n u
-          → Within (Stops f k w) n (Stands f k h o w e (d + 1) j) (on_activation m (λ x. and_then (release x u) (queue_delivery c (report_on s x exec.Canceled false 0) fill.None)) (ran_to u))
+          → Within (Stops f k w) n (Stands f k h o w e (d + 1) j) (on_activation m (λ x. and_then (release x u) (queue_delivery c (report_on s x exec.Canceled false 0) None)) (ran_to u))
       go (Cancel id) u g = ran_in (less e (d + 1) j (omega arith) g)
       go (Activate x life) u g = then_in (release_in x u g) (λ m v g. report_in j c _ _ v g)
       go (Expire id) u g = ran_in (less e (d + 1) j (omega arith) g)

@@ -6,10 +6,8 @@ use native.Mathlib.Omega.{arith}
 use lib.Dec.{ltb, leb}
 use lib.ListN.{length, length-append, length-map}
 use borrow.Author.Tests.{ltb-true}
-use Rattle.lists.specs.Lists.{Row, live, emptied, total}
+use Rattle.lists.specs.Lists.{live, emptied, total}
 use Rattle.lists.proofs.Cases.{pick_case}
-use Rattle.orders.specs.Rows.{orders_row, orders_of}
-use Rattle.msgs.specs.Rows.{msgs_row, msgs_of}
 use Rattle.state.specs.With.{with_orders, control_phase}
 use Rattle.book.specs.declared.VenueMsg.{VenueMsg}
 use Rattle.book.specs.declared.VenueOrder.{VenueOrder}
@@ -31,6 +29,7 @@ use Rattle.rules.proofs.Cases.{word_case}
 use Rattle.rules.proofs.Bounded.{Within, ran_in, halted_in, halt_in, ended_in, pick_in, some_in, word_in, taking_in, putting_in, ran_out, map_in, then_in}
 use Rattle.rules.proofs.Costs.{Stands, Stops, less, stops, raise_in, stamp_in, report_in, await_in, removed_in, fewer_in}
 use Rattle.rules.proofs.Paid.{Paid, stops_on, opened, closed, pays_less, raise_paid, deliver_paid, walk_in, own}
+use Rattle.lists.specs.declared.Arr.{Arr}
 
 module _ {k : Control} {h o w : ℕ} where
   -- ---- a row over the orders: a fill raises two events, its own and its report, and sends a delivery
@@ -43,7 +42,7 @@ module _ {k : Control} {h o w : ℕ} where
   unfolding fill_at
   fill_in j c i x q s g = then_in (event_in (j + 1) x q s g)
       (λ m t g. report_in j c _ _ _
-      (record { at = g.at; room = g.room; few = stored-few i h (filled_by q x) (orders_row t.orders) g.few; seen = g.seen; light = g.light; held = g.held; spare = g.spare }))
+      (record { at = g.at; room = g.room; few = stored-few i h (filled_by q x) t.orders g.few; seen = g.seen; light = g.light; held = g.held; spare = g.spare }))
 
   filling_in : {e d n : ℕ} (j : ℕ) (c : Config) (i : ℕ) (s : KernelState) (f : Fills) → Stands raisable_kind k h o w e d (j + 1 + 1) n s → Within (Stops raisable_kind k w) n (Stands raisable_kind k h o w e (d + 1) j) (filling c i s f)
   filling_in {e} {d} j c i s no_fill g = ran_in (less e (d + 1) j (omega arith) g)
@@ -59,7 +58,7 @@ module _ {k : Control} {h o w : ℕ} where
 
   leave_in : {e d j n : ℕ} (i : ℕ) (s : KernelState) → Stands raisable_kind k h o w e d j n s → Within (Stops raisable_kind k w) n (Stands raisable_kind k h o w e d j) (leave i s)
   unfolding leave
-  leave_in i s g = taking_in (λ x l t. await_in x _ (removed_in refl x.id (with_orders s (orders_of l)) (fewer_in s x l t g))) (λ _. ran_in g)
+  leave_in i s g = taking_in (λ x l t. await_in x _ (removed_in refl x.id (with_orders s l) (fewer_in s x l t g))) (λ _. ran_in g)
 
   sweep_in : {e d j n : ℕ} (l i : ℕ) (s : KernelState) → Stands raisable_kind k h o w e d j n s → Within (Stops raisable_kind k w) n (Stands raisable_kind k h o w e d j) (sweep_from l i s)
   unfolding sweep_from
@@ -124,7 +123,7 @@ module _ {k : Control} {h o w : ℕ} where
 emptied-stops : {k : Control} {w : ℕ} (s : KernelState) → Stops raisable_kind k w s → Stops raisable_kind k w (empty_queues s)
 unfolding empty_queues emptied total
 emptied-stops {w = w} s z =
-    record { cursor = z.cursor; row = z.row; light = pick_case (λ (r : Row VenueMsg). msgs_events (msgs_of r) ≤ w) (leb s.msgs.count 16) _ _ (λ _. omega arith) (λ _. z.light) }
+    record { cursor = z.cursor; row = z.row; light = pick_case (λ (r : Arr VenueMsg 16). msgs_events r ≤ w) (leb s.msgs.count 16) _ _ (λ _. omega arith) (λ _. z.light) }
 
 module _ {P : ℕ → KernelState → Type 0} where
   -- the data ended, or one of its two counters did not fit: nothing runs on
@@ -137,10 +136,10 @@ module _ {P : ℕ → KernelState → Type 0} where
       (λ _. halted_in (rw length-append (omega (arith, few))) z)
     where
       es : List KernelEvent
-      es = map dropped_event (live 16 (msgs_row s.msgs))
+      es = map dropped_event (live 16 s.msgs)
 
       few : length es + 1 ≤ n
-      few = omega (arith, g.spare, length-map (live 16 (msgs_row s.msgs)) dropped_event, live-few 16 (msgs_row s.msgs))
+      few = omega (arith, g.spare, length-map (live 16 s.msgs) dropped_event, live-few 16 s.msgs)
 
       z : Stops raisable_kind k w (empty_queues s)
       z = emptied-stops s (stops g)

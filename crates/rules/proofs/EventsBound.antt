@@ -9,7 +9,6 @@ use lib.ListN.{length, length-append, length-take}
 use borrow.Author.Tests.{leb-true}
 use Rattle.lists.specs.Lists.{below, total}
 use Rattle.lists.proofs.Cases.{pick_case}
-use Rattle.msgs.specs.Rows.{msgs_row}
 use Rattle.book.specs.declared.MsgKind.{MsgKind}
 use Rattle.book.specs.declared.MsgKind.TheVariants.{Cancel, Activate, Expire}
 use Rattle.book.specs.declared.VenueMsg.{VenueMsg}
@@ -86,7 +85,7 @@ fit_affords rows s e =
       on = refl;
       room = omega arith;
       few = leb-true _ _ f.0;
-      paid = omega (arith, leb-true s.observed.count 16 b.1, leb-true s.deliveries.count 24 c.1, leb-true s.msgs.count 16 f.1, few-extra (below (msgs_row s.msgs)), length-take s.msgs.count s.msgs.slots, few_cost s.control.phase);
+      paid = omega (arith, leb-true s.observed.count 16 b.1, leb-true s.deliveries.count 24 c.1, leb-true s.msgs.count 16 f.1, few-extra (below s.msgs), length-take s.msgs.count s.msgs.slots, few_cost s.control.phase);
     }
   where
     few_cost : (p : Phase) → cost_in p ≤ 45

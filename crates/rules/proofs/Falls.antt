@@ -1,33 +1,26 @@
 -- Each event makes the weight fall, for all states: the walk's fuel never runs out. Its events are paid for by the weight. Assumes nothing.
+use Rattle.std.specs.Prelude.{Option, Some, None}
 use Prim.Native.Nat.{ℕ, suc, ◌+◌, ◌-◌, ◌*◌, ◌≤◌, ◌<◌}
 use mathlib.Core.Bool.{false}
 use mathlib.Core.Path.{◌≡◌, refl}
 use native.Mathlib.Omega.{arith}
 use lib.Dec.{leb}
-use Rattle.lists.specs.Lists.{Row, below, total}
+use Rattle.lists.specs.Lists.{below, total}
 use Rattle.lists.proofs.Cases.{pick_case, some_case}
 use Rattle.lists.proofs.Sums.{Took, take_case, entry_case}
 use Rattle.book.specs.Entries.{blank_order, blank_msg, blank_delivery, blank_obs}
-use Rattle.orders.specs.Rows.{orders_row, orders_of}
-use Rattle.msgs.specs.Rows.{msgs_row, msgs_of}
-use Rattle.deliveries.specs.Rows.{deliveries_row}
-use Rattle.observed.specs.Rows.{observed_row}
 use Rattle.state.specs.With.{with_orders, with_msgs}
 use Rattle.book.specs.declared.Delivery.{Delivery}
 use Rattle.book.specs.declared.ExecKind.TheVariants as exec
-use Rattle.book.specs.declared.MaybeFill.{MaybeFill}
-use Rattle.book.specs.declared.MaybeFill.TheVariants as fill
 use Rattle.book.specs.declared.MsgKind.{MsgKind}
 use Rattle.book.specs.declared.MsgKind.TheVariants.{Cancel, Activate, Expire}
 use Rattle.book.specs.declared.ReportRec.{ReportRec}
 use Rattle.book.specs.declared.VenueMsg.{VenueMsg}
 use Rattle.book.specs.declared.VenueOrder.{VenueOrder}
 use Rattle.book.specs.declared.config.Config.{Config}
-use Rattle.msgs.specs.declared.Msgs.{Msgs}
 use Rattle.state.specs.declared.KernelEvent.{KernelEvent}
 use Rattle.state.specs.declared.KernelState.{KernelState}
 use Rattle.state.specs.declared.Phase.{Phase}
-use Rattle.numbers.specs.declared.MaybeU64.{MaybeU64}
 use Rattle.rules.specs.Run.{Run, ran, ran_to, raised, and_then, again, last}
 use Rattle.rules.specs.Report.{stamp, delayed, push_delivery, reported, queue_delivery, report_on}
 use Rattle.rules.specs.Messages.{release, await, await_marked, book, schedule, remove_expiry, schedule_expiry, accept, reject, activate, activation, cancel_booked, on_activation, cancel_activation, cancel_awaiting, cancel, expire_booked, expire, acts, apply_next_msg}
@@ -35,6 +28,9 @@ use Rattle.rules.specs.Delivery.{count_fill, move_agent, count_reject, deliver_n
 use Rattle.rules.specs.Events.{pop_observation, Class, venue, delivery, observation, Next, nothing, next, due_by, next_msg, next_delivery, next_observation, sooner, next_of, clock_to, handle, turn_on, event_turn, extra_kind, extra, weight, run_events}
 use Rattle.rules.proofs.Loop.{run_of, run-again, run-last}
 use Rattle.rules.proofs.Within.{Within, ran_in, raised_in, halt_in, left_in, pick_in, some_in, word_in, moved_in, taking_in, putting_in, ran_out, then_in, map_in, iter_in}
+use Rattle.book.specs.declared.FillRec.{FillRec}
+use Rattle.msgs.specs.Rows.{Msgs}
+use Rattle.lists.specs.declared.Arr.{Arr}
 
 -- Of n events that may follow, j are kept back; the weight, times 3, is paid for by the others: a report and its delivery cost 4, an expiry 6.
 -- x and p are the cursor and the phase, and no more than h orders are booked.
@@ -43,7 +39,7 @@ pub record KeptBy (x : ℕ) (p : Phase) (h j n : ℕ) (cursor : ℕ) (phase : Ph
   pub on : phase ≡ p
   pub room : 8 ≤ h
   pub few : orders ≤ h
-  pub paid : 3 * (2 * msgs.count + total extra (below (msgs_row msgs)) + deliveries + observed) + j ≤ n
+  pub paid : 3 * (2 * msgs.count + total extra (below msgs) + deliveries + observed) + j ≤ n
 
 -- only these parts of the state matter: a step that leaves them keeps it as it stands
 abbrev pub Kept : ℕ → Phase → ℕ → ℕ → ℕ → KernelState → Type 0
@@ -52,7 +48,7 @@ Kept x p h j n s = KeptBy x p h j n s.control.cursor s.control.phase s.orders.co
 module _ {x : ℕ} {p : Phase} {h : ℕ} where
   -- what is paid for and kept back changed: the lists but for the orders, or the number that may follow
   pub pays : {i j m n cursor orders deliveries deliveries₁ observed observed₁ : ℕ} {phase : Phase} {msgs msgs₁ : Msgs}
-      → 3 * (2 * msgs₁.count + total extra (below (msgs_row msgs₁)) + deliveries₁ + observed₁) + j ≤ m
+      → 3 * (2 * msgs₁.count + total extra (below msgs₁) + deliveries₁ + observed₁) + j ≤ m
       → KeptBy x p h i n cursor phase orders msgs deliveries observed → KeptBy x p h j m cursor phase orders msgs₁ deliveries₁ observed₁
   pays w k = record { at = k.at; on = k.on; room = k.room; few = k.few; paid = w }
 
@@ -73,7 +69,7 @@ module _ {x : ℕ} {p : Phase} {h : ℕ} where
   unfolding push_delivery
   push_in j d s k = putting_in _ _ s (λ l a. pays (omega (arith, k.paid, a.one_more)) k)
 
-  pub report_in : (j : ℕ) {n : ℕ} (c : Config) (r : ReportRec) (f : MaybeFill) (s : KernelState) → Kept x p h (j + 3 + 1) n s → Within n (Kept x p h j) (queue_delivery c r f s)
+  pub report_in : (j : ℕ) {n : ℕ} (c : Config) (r : ReportRec) (f : Option FillRec) (s : KernelState) → Kept x p h (j + 3 + 1) n s → Within n (Kept x p h j) (queue_delivery c r f s)
   unfolding queue_delivery reported delayed
   report_in j c r f s k = then_in (word_in _ (λ at. raise_in (j + 3) _ _ k) halt_in) (λ m t g. push_in j _ t g)
 
@@ -90,28 +86,28 @@ module _ {x : ℕ} {p : Phase} {h : ℕ} where
   unfolding book
   book_in j o s k = putting_in _ _ s (λ l a. record { at = k.at; on = k.on; room = k.room; few = omega (arith, k.room, a.room); paid = k.paid })
 
-  expiry_in : (j : ℕ) {n : ℕ} (w : MaybeU64) (id : ℕ) (s : KernelState) → Kept x p h (j + 6) n s → Within n (Kept x p h j) (schedule_expiry w id s)
+  expiry_in : (j : ℕ) {n : ℕ} (w : Option ℕ) (id : ℕ) (s : KernelState) → Kept x p h (j + 6) n s → Within n (Kept x p h j) (schedule_expiry w id s)
   unfolding schedule_expiry schedule
   expiry_in j w id s k = word_in w
       (λ at. word_in _ (λ q. putting_in _ _ _ (λ l a. pays (omega (arith, k.paid, a.one_more, a.sums extra)) k)) halt_in)
       (ran_in (less j (omega arith) k))
 
   -- a message came out: it weighs 2, and what more its kind weighs
-  out_in : (j : ℕ) {n i : ℕ} (s : KernelState) (m : VenueMsg) (l : Row VenueMsg) → Took 16 blank_msg i (msgs_row s.msgs) m l → Kept x p h j n s
-      → Kept x p h (j + 6 + 3 * extra m) n (with_msgs s (msgs_of l))
+  out_in : (j : ℕ) {n i : ℕ} (s : KernelState) (m : VenueMsg) (l : Arr VenueMsg 16) → Took 16 blank_msg i s.msgs m l → Kept x p h j n s
+      → Kept x p h (j + 6 + 3 * extra m) n (with_msgs s l)
   out_in j s m l t k = pays (omega (arith, k.paid, t.one_less, t.sums extra refl)) k
 
   pub removed_in : (j : ℕ) {n : ℕ} (id : ℕ) (s : KernelState) → Kept x p h j n s → Kept x p h j n (remove_expiry id s)
   unfolding remove_expiry
   removed_in j {n = n} id s k = some_case (Kept x p h j n) _ _ _
-      (λ i _. take_case 16 (λ t. Kept x p h j n (with_msgs s (msgs_of t.list))) blank_msg i (msgs_row s.msgs) (λ m l t. less j (omega arith) (out_in j s m l t k)) (λ _. k))
+      (λ i _. take_case 16 (λ t. Kept x p h j n (with_msgs s t.list)) blank_msg i s.msgs (λ m l t. less j (omega arith) (out_in j s m l t k)) (λ _. k))
       (λ _. k)
 
-  pub fewer_in : (j : ℕ) {n i : ℕ} (s : KernelState) (o : VenueOrder) (l : Row VenueOrder) → Took 8 blank_order i (orders_row s.orders) o l → Kept x p h j n s → Kept x p h j n (with_orders s (orders_of l))
+  pub fewer_in : (j : ℕ) {n i : ℕ} (s : KernelState) (o : VenueOrder) (l : Arr VenueOrder 8) → Took 8 blank_order i s.orders o l → Kept x p h j n s → Kept x p h j n (with_orders s l)
   fewer_in j s o l t k = record { at = k.at; on = k.on; room = k.room; few = omega (arith, k.few, t.one_less); paid = k.paid }
 
   -- ---- what a message does
-  accept_in : (j : ℕ) {n : ℕ} (c : Config) (o : VenueOrder) (w : MaybeU64) (s t : KernelState) → Kept x p h (j + 6 + 3 + 1) n t → Within n (Kept x p h j) (accept c o w s t)
+  accept_in : (j : ℕ) {n : ℕ} (c : Config) (o : VenueOrder) (w : Option ℕ) (s t : KernelState) → Kept x p h (j + 6 + 3 + 1) n t → Within n (Kept x p h j) (accept c o w s t)
   unfolding accept
   accept_in j c o w s t k = then_in (report_in (j + 6) c _ _ t k) (λ m u g. then_in (book_in (j + 6) o u g) (λ m v g. expiry_in j w _ v g))
 
@@ -119,7 +115,7 @@ module _ {x : ℕ} {p : Phase} {h : ℕ} where
   unfolding reject
   reject_in j c o s t k = then_in (release_in (j + 3 + 1) _ t k) (λ m u g. then_in (report_in j c _ _ u g) (λ m v g. await_in j o v g))
 
-  activate_in : (j : ℕ) {n : ℕ} (c : Config) (o : VenueOrder) (w : MaybeU64) (s : KernelState) → Kept x p h (j + 6 + 3 + 1) n s → Within n (Kept x p h j) (activate c o w s)
+  activate_in : (j : ℕ) {n : ℕ} (c : Config) (o : VenueOrder) (w : Option ℕ) (s : KernelState) → Kept x p h (j + 6 + 3 + 1) n s → Within n (Kept x p h j) (activate c o w s)
   unfolding activate
   activate_in j c o w s k = then_in (stamp_in (j + 6 + 3 + 1) s k) (λ m t g. pick_in _ (accept_in j c _ w s t g) (reject_in j c _ s t (less (j + 3 + 1) (omega arith) g)))
 
@@ -136,11 +132,11 @@ module _ {x : ℕ} {p : Phase} {h : ℕ} where
   cancel_pending_in : (j : ℕ) {n : ℕ} (c : Config) (s : KernelState) (i : ℕ) (t : KernelState) → Kept x p h (j + 3 + 1) n t → Within n (Kept x p h j) (cancel_activation c s i t)
   unfolding cancel_activation
   cancel_pending_in j {n = n} c s i t k = taking_in
-      (λ m l q. go m.kind (with_msgs t (msgs_of l)) (less (j + 3 + 1) (omega arith) (out_in (j + 3 + 1) t m l q k)))
+      (λ m l q. go m.kind (with_msgs t l) (less (j + 3 + 1) (omega arith) (out_in (j + 3 + 1) t m l q k)))
       (λ _. ran_in (less j (omega arith) k))
     where
       go : (m : MsgKind) (u : KernelState) → Kept x p h (j + 3 + 1) n u
-          → Within n (Kept x p h j) (on_activation m (λ o. and_then (release o u) (queue_delivery c (report_on s o exec.Canceled false 0) fill.None)) (ran_to u))
+          → Within n (Kept x p h j) (on_activation m (λ o. and_then (release o u) (queue_delivery c (report_on s o exec.Canceled false 0) None)) (ran_to u))
       go (Cancel id) u g = ran_in (less j (omega arith) g)
       go (Activate o life) u g = then_in (release_in (j + 3 + 1) o u g) (λ m v g. report_in j c _ _ v g)
       go (Expire id) u g = ran_in (less j (omega arith) g)
@@ -173,10 +169,10 @@ module _ {x : ℕ} {p : Phase} {h : ℕ} where
   acts_in j c (Expire id) s t k = expire_in j c id t (less (j + 3 + 1 + 1) (omega arith) k)
 
   -- ---- a delivery
-  move_in : (j : ℕ) {n : ℕ} (f : MaybeFill) (s : KernelState) → Kept x p h j n s → Within n (Kept x p h j) (move_agent f s)
+  move_in : (j : ℕ) {n : ℕ} (f : Option FillRec) (s : KernelState) → Kept x p h j n s → Within n (Kept x p h j) (move_agent f s)
   unfolding count_fill
-  move_in j fill.None s k = ran_in k
-  move_in j (fill.Some r) s k = moved_in _ (λ q. word_in _ (λ _. ran_in k) halt_in) halt_in
+  move_in j None s k = ran_in k
+  move_in j (Some r) s k = moved_in _ (λ q. word_in _ (λ _. ran_in k) halt_in) halt_in
 
   count_in : (j : ℕ) {n : ℕ} (r : ReportRec) (s : KernelState) → Kept x p h j n s → Within n (Kept x p h j) (count_reject r s)
   unfolding count_reject
@@ -213,10 +209,10 @@ sooner-ok s (next k t) (next j u) h g = pick_case (NextDue s) (leb t u) _ _ (λ 
 pub next-ok : (limit : ℕ) (s : KernelState) → NextDue s (next_of limit s)
 unfolding next_of next_msg next_delivery next_observation
 next-ok limit s = sooner-ok s _ _
-    (entry_case 16 (NextDue s) blank_msg 0 (msgs_row s.msgs) _ _ (λ w z. due-ok limit venue _ s (z, w)) (λ _. tt))
+    (entry_case 16 (NextDue s) blank_msg 0 s.msgs _ _ (λ w z. due-ok limit venue _ s (z, w)) (λ _. tt))
     (sooner-ok s _ _
-    (entry_case 24 (NextDue s) blank_delivery 0 (deliveries_row s.deliveries) _ _ (λ w z. due-ok limit delivery _ s (z, w)) (λ _. tt))
-    (entry_case 16 (NextDue s) blank_obs 0 (observed_row s.observed) _ _ (λ w z. due-ok limit observation _ s (z, w)) (λ _. tt)))
+    (entry_case 24 (NextDue s) blank_delivery 0 s.deliveries _ _ (λ w z. due-ok limit delivery _ s (z, w)) (λ _. tt))
+    (entry_case 16 (NextDue s) blank_obs 0 s.observed _ _ (λ w z. due-ok limit observation _ s (z, w)) (λ _. tt)))
 
 -- ---- a turn that goes on leaves one more kept back than there were
 module _ {x : ℕ} {p : Phase} {h : ℕ} where

@@ -6,11 +6,9 @@ use native.Mathlib.Omega.{arith}
 use lib.Dec.{ltb, leb}
 use lib.ListN.{length, length-append, length-map, length-take}
 use borrow.Author.Tests.{ltb-true}
-use Rattle.lists.specs.Lists.{Row, Put, live, below, store_at}
+use Rattle.lists.specs.Lists.{Put, live, below, store_at}
 use Rattle.lists.proofs.Cases.{pick_case}
 use Rattle.lists.proofs.Sums.{store_case}
-use Rattle.orders.specs.Rows.{orders_row, orders_of}
-use Rattle.msgs.specs.Rows.{msgs_row}
 use Rattle.state.specs.With.{with_orders}
 use Rattle.book.specs.declared.VenueOrder.{VenueOrder}
 use Rattle.book.specs.declared.config.Config.{Config}
@@ -28,9 +26,10 @@ use Rattle.rules.proofs.Loop.{run-again, run-last}
 use Rattle.rules.proofs.Cases.{word_case}
 use Rattle.rules.proofs.Within.{Within, ran_in, halted_in, halt_in, ended_in, pick_in, some_in, word_in, taking_in, putting_in, ran_out, then_in}
 use Rattle.rules.proofs.Falls.{Kept, less, raise_in, stamp_in, report_in, await_in, removed_in, fewer_in, deliver_in, walk_in, own}
+use Rattle.lists.specs.declared.Arr.{Arr}
 
-pub stored-few : (i h : ℕ) (o : VenueOrder) (r : Row VenueOrder) → r.count ≤ h → (store_at 8 i o r).list.count ≤ h
-stored-few i h o r w = store_case 8 (λ (q : Put VenueOrder). q.list.count ≤ h) i o r (λ _ _. w) w
+pub stored-few : (i h : ℕ) (o : VenueOrder) (r : Arr VenueOrder 8) → r.count ≤ h → (store_at 8 i o r).list.count ≤ h
+stored-few i h o r w = store_case 8 (λ (q : Put VenueOrder 8). q.list.count ≤ h) i o r (λ _ _. w) w
 
 module _ {x : ℕ} {p : Phase} {h : ℕ} where
   -- ---- a row over the orders: a fill costs 5, its event and its report
@@ -41,7 +40,7 @@ module _ {x : ℕ} {p : Phase} {h : ℕ} where
   fill_in : (j : ℕ) {n : ℕ} (c : Config) (i : ℕ) (o : VenueOrder) (q : ℕ) (s : KernelState) → Kept x p h (j + 3 + 1 + 1) n s → Within n (Kept x p h j) (fill_at c i o q s)
   unfolding fill_at
   fill_in j c i o q s k = then_in (event_in (j + 3 + 1) o q s k)
-      (λ m t g. report_in j c _ _ _ (record { at = g.at; on = g.on; room = g.room; few = stored-few i h (filled_by q o) (orders_row t.orders) g.few; paid = g.paid }))
+      (λ m t g. report_in j c _ _ _ (record { at = g.at; on = g.on; room = g.room; few = stored-few i h (filled_by q o) t.orders g.few; paid = g.paid }))
 
   filling_in : (j : ℕ) {n : ℕ} (c : Config) (i : ℕ) (s : KernelState) (f : Fills) → Kept x p h (j + 3 + 1 + 1) n s → Within n (Kept x p h j) (filling c i s f)
   filling_in j c i s no_fill k = ran_in (less j (omega arith) k)
@@ -55,7 +54,7 @@ module _ {x : ℕ} {p : Phase} {h : ℕ} where
 
   leave_in : (j : ℕ) {n : ℕ} (i : ℕ) (s : KernelState) → Kept x p h j n s → Within n (Kept x p h j) (leave i s)
   unfolding leave
-  leave_in j i s k = taking_in (λ o l t. await_in j o _ (removed_in j o.id (with_orders s (orders_of l)) (fewer_in j s o l t k))) (λ _. ran_in k)
+  leave_in j i s k = taking_in (λ o l t. await_in j o _ (removed_in j o.id (with_orders s l) (fewer_in j s o l t k))) (λ _. ran_in k)
 
   sweep_in : (j : ℕ) {n : ℕ} (l i : ℕ) (s : KernelState) → Kept x p h j n s → Within n (Kept x p h j) (sweep_from l i s)
   unfolding sweep_from
@@ -89,7 +88,7 @@ module _ {x : ℕ} {p : Phase} {h : ℕ} where
   all_in j zero s k = ran_in k
   all_in j (suc l) s k = then_in (deliver_in j j s (omega arith) (λ _. omega arith) k) (λ m t g. all_in j l t g)
 
-pub live-few : {A : Type 0} (most : ℕ) (r : Row A) → length (live most r) ≤ r.count
+pub live-few : {A : Type 0} {size : ℕ} (most : ℕ) (r : Arr A size) → length (live most r) ≤ r.count
 unfolding live
 live-few most r = pick_case (λ l. length l ≤ r.count) (leb r.count most) (below r) [] (λ _. omega (arith, length-take r.count r.slots)) (λ _. omega arith)
 
@@ -102,10 +101,10 @@ module _ {P : ℕ → KernelState → Type 0} where
       (λ _. halted_in (rw length-append (omega (arith, few))))
     where
       es : List KernelEvent
-      es = map dropped_event (live 16 (msgs_row s.msgs))
+      es = map dropped_event (live 16 s.msgs)
 
       few : length es + 1 ≤ n
-      few = omega (arith, k.paid, length-map (live 16 (msgs_row s.msgs)) dropped_event, live-few 16 (msgs_row s.msgs))
+      few = omega (arith, k.paid, length-map (live 16 s.msgs) dropped_event, live-few 16 s.msgs)
 
   end_in : {x : ℕ} {p : Phase} {h n : ℕ} (s : KernelState) → Kept x p h 1 n s → Within n P (end_of_data s)
   unfolding end_of_data

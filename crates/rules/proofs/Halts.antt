@@ -1,10 +1,10 @@
 -- Rows of 'Refused or halted' whose order of effects no other theorem sees. Assumes nothing.
+use Rattle.std.specs.Prelude.{None}
 use Prim.Native.Nat.{ℕ, ◌+◌, ◌*◌}
 use mathlib.Core.Bool.{false, true≢false}
 use mathlib.Core.Path.{◌≡◌, refl, sym, ◌∙◌}
-use Rattle.numbers.specs.Choice.{pick}
-use Rattle.numbers.specs.Words.{fits, fitting, on_word}
-use Rattle.numbers.specs.declared.MaybeU64.TheVariants.{None}
+use Rattle.numbers.specs.Choice.{pick, on_some}
+use Rattle.numbers.specs.Words.{fits, fitting}
 use Rattle.lists.proofs.Cases.{pick_case, some_case}
 use Rattle.state.specs.With.{with_seqs, seqs_stamp_seq}
 use Rattle.book.specs.declared.VenueOrder.{VenueOrder}
@@ -19,7 +19,7 @@ use Rattle.rules.proofs.Cases.{word_case}
 
 -- "delay: sum .. past 64 bits": also where the quantum is 0 and the product would fit
 pub sum_past : (from base jitter quantum : ℕ) → fits (base + jitter) ≡ false → delayed_time from base jitter quantum ≡ None
-unfolding delayed_time fitting pick on_word
+unfolding delayed_time fitting pick on_some
 sum_past from base jitter quantum h = rw h
 
 -- it halts, in a state of which P is so

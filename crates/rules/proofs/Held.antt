@@ -1,4 +1,5 @@
 -- What is held inside a call: the three properties with lots that are on their way from one list to another, and the gate's part in them. Assumes nothing.
+use Rattle.numbers.specs.Choice.{on_some}
 use Prim.Native.Nat.{ℕ, ◌+◌, ◌-◌, ◌≤◌}
 use mathlib.Core.Bool.{Bool, true, false}
 use mathlib.Core.List.{List}
@@ -7,19 +8,13 @@ use native.Mathlib.Omega.{arith}
 use borrow.Author.Tests.{ltb-false}
 use lib.Dec.{ltb}
 use lib.IntN.{ℤ}
-use Rattle.lists.specs.Lists.{below, on_some, total}
+use Rattle.lists.specs.Lists.{below, total}
 use Rattle.lists.proofs.Cases.{pick_case}
 use Rattle.book.specs.Entries.{blank_order, on_side, remaining, is_terminal}
-use Rattle.orders.specs.Rows.{orders_row}
-use Rattle.msgs.specs.Rows.{msgs_row}
-use Rattle.deliveries.specs.Rows.{deliveries_row}
 use Rattle.book.specs.declared.Side.{Side}
 use Rattle.book.specs.declared.Side.TheVariants.{Buy, Sell}
 use Rattle.book.specs.declared.VenueMsg.{VenueMsg}
 use Rattle.book.specs.declared.VenueOrder.{VenueOrder}
-use Rattle.deliveries.specs.declared.Deliveries.{Deliveries}
-use Rattle.msgs.specs.declared.Msgs.{Msgs}
-use Rattle.orders.specs.declared.Orders.{Orders}
 use Rattle.state.specs.declared.GateState.{GateState}
 use Rattle.state.specs.declared.KernelState.{KernelState}
 use Rattle.state.specs.declared.Phase.TheVariants.{Terminal}
@@ -30,6 +25,9 @@ use Rattle.rules.specs.Conservation.{of_side, lots_on, carried_on, recorded_on, 
 use Rattle.rules.proofs.Cases.{moved_by, moved_case}
 use Rattle.rules.proofs.Positions.{Balanced}
 use Rattle.rules.proofs.Kept.{Kept}
+use Rattle.deliveries.specs.Rows.{Deliveries}
+use Rattle.msgs.specs.Rows.{Msgs}
+use Rattle.orders.specs.Rows.{Orders}
 
 -- n where b
 abbrev pub when : Bool → ℕ → ℕ
@@ -50,9 +48,9 @@ nil x = 0
 
 -- `unplaced` lots of each side are live, and neither booked nor queued. `unreported` lots of each side are filled, and in no delivery yet. t of the booked orders is 0.
 pub record HeldBy (t : VenueOrder → ℕ) (unplaced unreported : Side → ℕ) (venue agent : ℤ) (buy sell : ℕ) (os : Orders) (ms : Msgs) (ds : Deliveries) : Type 0 where
-  pub lots : (x : Side) → on_side x buy sell ≡ unplaced x + (total (lots_on x) (below (orders_row os)) + total (carried_on x) (below (msgs_row ms)))
-  pub no_terminal : total t (below (orders_row os)) ≡ 0
-  pub balanced : Balanced venue agent (unreported Buy + total (recorded_on Buy) (below (deliveries_row ds))) (unreported Sell + total (recorded_on Sell) (below (deliveries_row ds)))
+  pub lots : (x : Side) → on_side x buy sell ≡ unplaced x + (total (lots_on x) (below os) + total (carried_on x) (below ms))
+  pub no_terminal : total t (below os) ≡ 0
+  pub balanced : Balanced venue agent (unreported Buy + total (recorded_on Buy) (below ds)) (unreported Sell + total (recorded_on Sell) (below ds))
   pub few_orders : os.count ≤ 8
   pub few_msgs : ms.count ≤ 16
   pub few_deliveries : ds.count ≤ 24

@@ -1,19 +1,16 @@
 -- A delivery keeps what is held, and end of data, where all are delivered, closes it. Assumes nothing.
+use Rattle.std.specs.Prelude.{Option, Some, None}
 use Prim.Native.Nat.{ℕ, zero, suc, ◌+◌, ◌≤◌}
 use mathlib.Core.List.{List, map}
 use mathlib.Core.Path.{◌≡◌, refl, ap}
 use native.Mathlib.Omega.{arith}
 use lib.ListN.{take}
-use Rattle.lists.specs.Lists.{Row, live, total}
+use Rattle.lists.specs.Lists.{live, total}
 use Rattle.lists.proofs.Sums.{Took}
 use Rattle.lists.proofs.Totals.{live_below}
 use Rattle.book.specs.Entries.{blank_delivery}
-use Rattle.msgs.specs.Rows.{msgs_row}
-use Rattle.deliveries.specs.Rows.{deliveries_row, deliveries_of}
 use Rattle.state.specs.With.{with_deliveries}
 use Rattle.book.specs.declared.Delivery.{Delivery}
-use Rattle.book.specs.declared.MaybeFill.{MaybeFill}
-use Rattle.book.specs.declared.MaybeFill.TheVariants as fill
 use Rattle.book.specs.declared.ReportRec.{ReportRec}
 use Rattle.book.specs.declared.Side.TheVariants.{Buy, Sell}
 use Rattle.state.specs.declared.KernelState.{KernelState}
@@ -23,13 +20,15 @@ use Rattle.rules.proofs.Cases.{moved_case}
 use Rattle.rules.proofs.Positions.{balanced-same, balanced_agent, balanced_equal}
 use Rattle.rules.proofs.Kept.{ran-kept, halt-kept, ended-kept, after_kept, pick-kept, word_kept, taking-kept, raised_then, then_kept}
 use Rattle.rules.proofs.Held.{over, nil, Held, Inv, Good}
+use Rattle.book.specs.declared.FillRec.{FillRec}
+use Rattle.lists.specs.declared.Arr.{Arr}
 
 -- no more than n deliveries are left
 abbrev pub Left : ℕ → KernelState → Type 0
 Left n s = Inv s × (s.deliveries.count ≤ n)
 
-took-delivery : (s : KernelState) (d : Delivery) (l : Row Delivery) → Took 24 blank_delivery 0 (deliveries_row s.deliveries) d l → Inv s
-    → Held over nil (λ x. recorded_by x d.fill) (with_deliveries s (deliveries_of l))
+took-delivery : (s : KernelState) (d : Delivery) (l : Arr Delivery 24) → Took 24 blank_delivery 0 s.deliveries d l → Inv s
+    → Held over nil (λ x. recorded_by x d.fill) (with_deliveries s l)
 took-delivery s d l k h =
     record {
       lots = h.lots;
@@ -41,10 +40,10 @@ took-delivery s d l k h =
     }
 
 -- the agent's position takes over the fill's record
-move_good : (n : ℕ) (f : MaybeFill) (s : KernelState) → Held over nil (λ x. recorded_by x f) s → s.deliveries.count ≤ n → Good (Left n) (move_agent f s)
+move_good : (n : ℕ) (f : Option FillRec) (s : KernelState) → Held over nil (λ x. recorded_by x f) s → s.deliveries.count ≤ n → Good (Left n) (move_agent f s)
 unfolding count_fill
-move_good n fill.None s h w = ran-kept (h, w)
-move_good n (fill.Some f) s h w =
+move_good n None s h w = ran-kept (h, w)
+move_good n (Some f) s h w =
     moved_case (Good (Left n)) _ _ _ _ _
     (word_kept _
     (λ k. ran-kept (
@@ -85,7 +84,7 @@ none_left f zero l h = omega arith
 none_left f (suc n) l h = absurd (omega arith)
 
 -- the queues are emptied, and that moves no lots of the orders
-closed : (s : KernelState) → Left 0 s → Closed (live 16 (msgs_row s.msgs)) (empty_queues s)
+closed : (s : KernelState) → Left 0 s → Closed (live 16 s.msgs) (empty_queues s)
 unfolding empty_queues
 closed s g =
     let h = g.0 in
@@ -93,7 +92,7 @@ closed s g =
       positions =
           balanced_equal _ _
           (balanced-same _ _ _ _ _ _ (none_left (recorded_on Buy) s.deliveries.count s.deliveries.slots g.1) (none_left (recorded_on Sell) s.deliveries.count s.deliveries.slots g.1) h.balanced);
-      lots = λ x. omega (arith, ap (total (carried_on x)) (live_below 16 (msgs_row s.msgs) h.few_msgs), h.lots x);
+      lots = λ x. omega (arith, ap (total (carried_on x)) (live_below 16 s.msgs h.few_msgs), h.lots x);
     }
 
 -- the counters and the phase are no part of it
@@ -101,7 +100,7 @@ close_good : (s : KernelState) → Left 0 s → Good Inv (close_data s)
 unfolding close_data
 close_good s g =
     let h = closed s g in
-    after_kept (map dropped_event (live 16 (msgs_row s.msgs))) (word_kept _ (λ m. word_kept _ (λ n. ended-kept (record { positions = h.positions; lots = h.lots }, refl)) halt-kept) halt-kept)
+    after_kept (map dropped_event (live 16 s.msgs)) (word_kept _ (λ m. word_kept _ (λ n. ended-kept (record { positions = h.positions; lots = h.lots }, refl)) halt-kept) halt-kept)
 
 pub end_good : (s : KernelState) → Inv s → Good Inv (end_of_data s)
 unfolding end_of_data

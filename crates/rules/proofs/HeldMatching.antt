@@ -1,21 +1,18 @@
 -- A pass of matching keeps the lots, a terminal order in it having none left, and the sweep behind it leaves no terminal order. Assumes nothing.
+use Rattle.std.specs.Prelude.{Option, Some, None}
 use Prim.Native.Nat.{ℕ, zero, suc, ◌+◌, ◌-◌, ◌≤◌, ◌<◌}
 use mathlib.Core.Bool.{Bool, true, false, false≢true}
-use mathlib.Core.Option.{Option, none, some}
 use mathlib.Core.Path.{◌≡◌, refl, ◌∙◌}
 use native.Mathlib.Numerals.{add-one}
 use native.Mathlib.Omega.{arith}
 use lib.Dec.{leb, eqb}
 use lib.ListN.{get_or, take, length}
 use borrow.Author.Tests.{leb-false, eqb-true, eqb-false}
-use Rattle.numbers.specs.declared.MaybeU64.{MaybeU64}
-use Rattle.numbers.specs.declared.MaybeU64.TheVariants as u64
-use Rattle.lists.specs.Lists.{Row, on_some, below, entry_at, store_at, total}
+use Rattle.lists.specs.Lists.{below, entry_at, store_at, total}
 use Rattle.lists.proofs.Cases.{pick_case}
 use Rattle.lists.proofs.Sums.{entry_case, total_none, there, Took}
 use Rattle.lists.proofs.Totals.{Stored, stored, front-all, front-more, front_same}
 use Rattle.book.specs.Entries.{blank_order, remaining, is_terminal}
-use Rattle.orders.specs.Rows.{orders_row, orders_of}
 use Rattle.state.specs.With.{with_seqs, with_orders, with_gate, seqs_stamp_seq}
 use Rattle.book.specs.declared.OrderState.{OrderState}
 use Rattle.book.specs.declared.VenueOrder.{VenueOrder}
@@ -23,9 +20,7 @@ use Rattle.book.specs.declared.config.Config.{Config}
 use Rattle.book.specs.declared.config.FillMode.{FillMode}
 use Rattle.book.specs.declared.config.FillMode.TheVariants.{Immediate, QueuePosition}
 use Rattle.book.specs.declared.config.KernelTick.{KernelTick}
-use Rattle.orders.specs.declared.Orders.{Orders}
-use Rattle.numbers.specs.Choice.{pick}
-use Rattle.numbers.specs.Words.{on_word}
+use Rattle.numbers.specs.Choice.{pick, on_some}
 use Rattle.state.specs.declared.KernelState.{KernelState}
 use Rattle.rules.specs.Messages.{remove_expiry}
 use Rattle.rules.specs.Matching.{lots_of, queue_fill_lots, fill_lots, filled_by, fill_counted, fill_event, fill_at, Fills, no_fill, fills, fails, fills_of, fills_at, filling, match_at, match_from, leave, terminal_at, sweep_from, sweep, gate_marked, match_row}
@@ -36,6 +31,8 @@ use Rattle.rules.proofs.Kept.{ran-kept, halt-kept, pick-kept, word_kept, taking-
 use Rattle.rules.proofs.Steps.{stamp_then, await-kept}
 use Rattle.rules.proofs.Held.{when, over, over_lots, nil, Held, Inv, Mid, Good, Gone, gate_with, no-lots, split_lots, filled_case}
 use Rattle.rules.proofs.HeldMessages.{report_good, took_order, removed_held}
+use Rattle.orders.specs.Rows.{Orders}
+use Rattle.lists.specs.declared.Arr.{Arr}
 
 -- ---- no more than the remaining lots
 pub lots-most : (cumulative : ℕ) (o : VenueOrder) → lots_of cumulative o ≤ remaining o
@@ -44,9 +41,9 @@ lots-most x o = pick_case (λ n. n ≤ remaining o) (eqb x 0) _ _ (λ _. omega a
     (λ _. pick_case (λ n. n ≤ remaining o) (leb o.qty x) _ _ (λ _. omega arith) (λ e. let h : x < o.qty = leb-false _ _ e in omega arith))
 
 -- what a number of 64 bits is at most, where there is one
-AtMost : ℕ → MaybeU64 → Type 0
-AtMost m u64.None = Unit {0}
-AtMost m (u64.Some n) = n ≤ m
+AtMost : ℕ → Option ℕ → Type 0
+AtMost m None = Unit {0}
+AtMost m (Some n) = n ≤ m
 
 fill_most : (mode : FillMode) (row : KernelTick) (o : VenueOrder) → AtMost (remaining o) (fill_lots mode row o)
 unfolding AtMost queue_fill_lots
@@ -63,7 +60,7 @@ There i os fails = Unit {0}
 pub fills-there : (mode : FillMode) (row : KernelTick) (i : ℕ) (os : Orders) → There i os (fills_at mode row i os)
 unfolding fills_at fills_of
 fills-there mode row i os =
-    entry_case 8 (There i os) blank_order i (orders_row os) _ _
+    entry_case 8 (There i os) blank_order i os _ _
     (λ a b. pick_case (There i os) _ _ _ (λ _. lots a b (get_or os.slots i blank_order) refl (fill_lots mode row (get_or os.slots i blank_order)) (fill_most mode row _)) (λ _. tt))
     (λ _. tt)
   where
@@ -71,9 +68,9 @@ fills-there mode row i os =
     positive zero k = absurd (k refl)
     positive (suc n) k = omega arith
 
-    lots : os.count ≤ 8 → i < os.count → (o : VenueOrder) → o ≡ get_or os.slots i blank_order → (m : MaybeU64) → AtMost (remaining o) m → There i os (on_word m (λ n. pick (eqb n 0) no_fill (fills o n)) fails)
-    lots a b o e u64.None h = unfold on_word in tt
-    lots a b o e (u64.Some n) h = unfold on_word AtMost in pick_case (There i os) (eqb n 0) _ _ (λ _. tt) (λ z. (e, a, b, positive n (eqb-false n 0 z), h))
+    lots : os.count ≤ 8 → i < os.count → (o : VenueOrder) → o ≡ get_or os.slots i blank_order → (m : Option ℕ) → AtMost (remaining o) m → There i os (on_some m (λ n. pick (eqb n 0) no_fill (fills o n)) fails)
+    lots a b o e None h = unfold on_some in tt
+    lots a b o e (Some n) h = unfold on_some AtMost in pick_case (There i os) (eqb n 0) _ _ (λ _. tt) (λ z. (e, a, b, positive n (eqb-false n 0 z), h))
 
 -- ---- a fill
 -- an order that a fill makes terminal has no lots left
@@ -97,10 +94,10 @@ module _ (i n : ℕ) (s : KernelState) (w : i < s.orders.count) (some-lots : 0 <
   -- the lots of a fill go from the booked order to the fills that are in no delivery
   filled-held : (buy sell : ℕ) → Gone (order_at i s).side n s.gate buy sell
       → Held over_lots nil (λ x. of_side x (order_at i s).side n)
-      (with_orders (with_gate s (gate_with s.gate (moved_by (order_at i s).side n s.gate.venue_pos.lots) buy sell)) (orders_of (store_at 8 i (filled_by n (order_at i s)) (orders_row s.orders)).list))
+      (with_orders (with_gate s (gate_with s.gate (moved_by (order_at i s).side n s.gate.venue_pos.lots) buy sell)) ((store_at 8 i (filled_by n (order_at i s)) s.orders).list))
   filled-held buy sell q =
       let o : VenueOrder = order_at i s in
-      let k : Stored blank_order i (filled_by n o) (orders_row s.orders) (store_at 8 i (filled_by n o) (orders_row s.orders)).list = stored 8 blank_order i (filled_by n o) (orders_row s.orders) h.few_orders w slot in
+      let k : Stored blank_order i (filled_by n o) s.orders (store_at 8 i (filled_by n o) s.orders).list = stored 8 blank_order i (filled_by n o) s.orders h.few_orders w slot in
       record {
         lots = λ x. unfold filled_by in omega (arith, q x, k.sums (lots_on x), split_lots x o.side n (remaining o) (o.qty - (o.filled + n)) (omega arith), h.lots x);
         no_terminal = omega (arith, k.sums over_lots, spent n o, h.no_terminal);
@@ -112,7 +109,7 @@ module _ (i n : ℕ) (s : KernelState) (w : i < s.orders.count) (some-lots : 0 <
 
 -- the fill is in no delivery yet, and the order is to be stored
 abbrev Ready : ℕ → VenueOrder → ℕ → KernelState → Type 0
-Ready i o n t = Held over_lots nil (λ x. of_side x o.side n) (with_orders t (orders_of (store_at 8 i (filled_by n o) (orders_row t.orders)).list))
+Ready i o n t = Held over_lots nil (λ x. of_side x o.side n) (with_orders t ((store_at 8 i (filled_by n o) t.orders).list))
 
 event_good : (i n : ℕ) (s : KernelState) → i < s.orders.count → 0 < n → n ≤ remaining (order_at i s) → Mid s → Good (Ready i (order_at i s) n) (fill_event (order_at i s) n s)
 unfolding fill_event fill_counted
@@ -142,7 +139,7 @@ match_all c row (suc k) i s h = then_kept (match_good c row i s h) (match_all c 
 -- ---- the sweep
 -- no terminal order stands before place i
 abbrev Clear : ℕ → KernelState → Type 0
-Clear i s = total over (take i (below (orders_row s.orders))) ≡ 0
+Clear i s = total over (take i (below s.orders)) ≡ 0
 
 -- of n orders one is gone
 abbrev Swept : ℕ → ℕ → KernelState → Type 0
@@ -151,16 +148,16 @@ Swept i n s = Mid s × Clear i s × (s.orders.count + 1 ≡ n)
 -- what it says of the order at place i that a terminal one stands there
 is_terminal_lem : (i : ℕ) (s : KernelState) → terminal_at i s ≡ true → (i < s.orders.count) × (is_terminal (order_at i s).state ≡ true)
 unfolding terminal_at
-is_terminal_lem i s = entry_case 8 (λ b. b ≡ true → (i < s.orders.count) × (is_terminal (order_at i s).state ≡ true)) blank_order i (orders_row s.orders) _ _
+is_terminal_lem i s = entry_case 8 (λ b. b ≡ true → (i < s.orders.count) × (is_terminal (order_at i s).state ≡ true)) blank_order i s.orders _ _
     (λ _ w e. (w, e)) (λ _ e. absurd (false≢true e))
 
-is_open : (i : ℕ) (s : KernelState) → terminal_at i s ≡ false → on_some (entry_at 8 blank_order i (orders_row s.orders)) over 0 ≡ 0
+is_open : (i : ℕ) (s : KernelState) → terminal_at i s ≡ false → on_some (entry_at 8 blank_order i s.orders) over 0 ≡ 0
 unfolding terminal_at on_some
-is_open i s e = go (entry_at 8 blank_order i (orders_row s.orders)) e
+is_open i s e = go (entry_at 8 blank_order i s.orders) e
   where
     go : (x : Option VenueOrder) → on_some x (λ o. is_terminal o.state) false ≡ false → on_some x over 0 ≡ 0
-    go none e = refl
-    go (some o) e = rw e
+    go None e = refl
+    go (Some o) e = rw e
 
 -- nothing is in hand where the order has no lots
 empty_hand : {t : VenueOrder → ℕ} (o : VenueOrder) (s : KernelState) → remaining o ≡ 0 → Held t (λ x. lots_on x o) nil s → Held t nil nil s
@@ -189,13 +186,13 @@ leave-good : (i : ℕ) (s : KernelState) → Mid s → Clear i s → i < s.order
 unfolding leave
 leave-good i s h z w e = taking-kept (λ o l k. let g = gone o l k in await-kept o _ (λ _. g) g) (λ k. absurd (omega (arith, k h.few_orders)))
   where
-    gone : (o : VenueOrder) (l : Row VenueOrder) → Took 8 blank_order i (orders_row s.orders) o l → Swept i s.orders.count (remove_expiry o.id (with_orders s (orders_of l)))
+    gone : (o : VenueOrder) (l : Arr VenueOrder 8) → Took 8 blank_order i s.orders o l → Swept i s.orders.count (remove_expiry o.id (with_orders s l))
     gone o l k =
         let there-is : i < length s.orders.slots = there over s.orders.slots i blank_order refl (when-one (is_terminal (order_at i s).state) e) in
-        let v : total over (take i (below l)) ≡ 0 = rw (front_same 8 blank_order i (orders_row s.orders) o l k there-is) z in
+        let v : total over (take i (below l)) ≡ 0 = rw (front_same 8 blank_order i s.orders o l k there-is) z in
         let r : remaining o ≡ 0 = when_none (is_terminal o.state) (remaining o) (rw k.is e) (omega (arith, k.sums over_lots refl, h.no_terminal)) in
-        let m : Mid (with_orders s (orders_of l)) = empty_hand o (with_orders s (orders_of l)) r (took_order refl i s o l k h) in
-        removed_held (Swept i s.orders.count) o.id (with_orders s (orders_of l)) m (m, v, k.one_less) (λ x y. (y, v, k.one_less))
+        let m : Mid (with_orders s l) = empty_hand o (with_orders s l) r (took_order refl i s o l k h) in
+        removed_held (Swept i s.orders.count) o.id (with_orders s l) m (m, v, k.one_less) (λ x y. (y, v, k.one_less))
 
 sweep-from : (k i : ℕ) (s : KernelState) → s.orders.count ≤ i + k → Mid s → Clear i s → Good Inv (sweep_from k i s)
 unfolding sweep_from
@@ -203,7 +200,7 @@ sweep-from zero i s w h z =
     ran-kept
     (record {
       lots = h.lots;
-      no_terminal = omega (arith, front-all over i (orders_row s.orders) (omega arith));
+      no_terminal = omega (arith, front-all over i s.orders (omega arith));
       balanced = h.balanced;
       few_orders = h.few_orders;
       few_msgs = h.few_msgs;
@@ -211,7 +208,7 @@ sweep-from zero i s w h z =
     })
 sweep-from (suc k) i s w h z = picks_kept (terminal_at i s) _ _ _ _ (sweep_from k)
     (λ e. let a = is_terminal_lem i s e in then_kept (leave-good i s h z a.0 a.1) (λ t g. let l = g.2 in sweep-from k _ t (omega arith) g.0 g.1))
-    (λ e. ran_then s _ (sweep-from k _ s (omega arith) h (rw add-one (front-more over 8 blank_order i (orders_row s.orders) refl h.few_orders (is_open i s e) ∙ z))))
+    (λ e. ran_then s _ (sweep-from k _ s (omega arith) h (rw add-one (front-more over 8 blank_order i s.orders refl h.few_orders (is_open i s e) ∙ z))))
 
 sweep-good : (s : KernelState) → Mid s → Good Inv (sweep s)
 unfolding sweep total

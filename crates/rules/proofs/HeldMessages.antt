@@ -1,20 +1,15 @@
 -- Reports and messages keep what is held. Assumes nothing.
+use Rattle.std.specs.Prelude.{Option, None}
 use Prim.Native.Nat.{ℕ}
 use mathlib.Core.Bool.{true, false≢true}
 use mathlib.Core.Path.{◌≡◌, refl}
 use native.Mathlib.Omega.{arith}
 use lib.ListN.{get_or}
-use Rattle.numbers.specs.declared.MaybeU64.{MaybeU64}
-use Rattle.lists.specs.Lists.{Row}
 use Rattle.lists.proofs.Cases.{some_case}
 use Rattle.lists.proofs.Sums.{take_case, found-live, Took}
 use Rattle.book.specs.Entries.{blank_order, blank_msg, expires, is_expiry}
-use Rattle.orders.specs.Rows.{orders_row, orders_of}
-use Rattle.msgs.specs.Rows.{msgs_row, msgs_of}
 use Rattle.state.specs.With.{with_orders, with_msgs}
 use Rattle.book.specs.declared.Delivery.{Delivery}
-use Rattle.book.specs.declared.MaybeFill.{MaybeFill}
-use Rattle.book.specs.declared.MaybeFill.TheVariants as fill
 use Rattle.book.specs.declared.MsgKind.{MsgKind}
 use Rattle.book.specs.declared.MsgKind.TheVariants.{Cancel, Activate, Expire}
 use Rattle.book.specs.declared.ReportRec.{ReportRec}
@@ -32,6 +27,8 @@ use Rattle.rules.proofs.Positions.{balanced-same}
 use Rattle.rules.proofs.Kept.{ran-kept, halt-kept, pick-kept, some-kept, word_kept, taking-kept, putting-kept, raised-kept, raised_then, then_kept}
 use Rattle.rules.proofs.Steps.{stamp_then, delayed-kept, await-kept}
 use Rattle.rules.proofs.Held.{over, nil, Held, Inv, Good, blank_lots, released_case}
+use Rattle.book.specs.declared.FillRec.{FillRec}
+use Rattle.lists.specs.declared.Arr.{Arr}
 
 -- ---- a report
 module _ {t : VenueOrder → ℕ} {unplaced : Side → ℕ} where
@@ -48,12 +45,12 @@ module _ {t : VenueOrder → ℕ} {unplaced : Side → ℕ} where
       }
 
   -- the fill that it reports is in a delivery
-  pub report_good : (c : Config) (r : ReportRec) (f : MaybeFill) (s : KernelState) → Held t unplaced (λ x. recorded_by x f) s → Good (Held t unplaced nil) (queue_delivery c r f s)
+  pub report_good : (c : Config) (r : ReportRec) (f : Option FillRec) (s : KernelState) → Held t unplaced (λ x. recorded_by x f) s → Good (Held t unplaced nil) (queue_delivery c r f s)
   unfolding queue_delivery reported
   report_good c r f s h = then_kept (delayed-kept c _ _ s _ λ at rng. raised-kept h) (λ t g. push_good _ t g)
 
-  pub plain_report_good : (c : Config) (r : ReportRec) (s : KernelState) → Held t unplaced nil s → Good (Held t unplaced nil) (queue_delivery c r fill.None s)
-  plain_report_good c r s h = report_good c r fill.None s h
+  pub plain_report_good : (c : Config) (r : ReportRec) (s : KernelState) → Held t unplaced nil s → Good (Held t unplaced nil) (queue_delivery c r None s)
+  plain_report_good c r s h = report_good c r None s h
 
 -- ---- an order in hand
 pub release-good : {t : VenueOrder → ℕ} {unreported : Side → ℕ} (o : VenueOrder) (s : KernelState) → Held t (λ x. lots_on x o) unreported s → Good (Held t nil unreported) (release o s)
@@ -64,8 +61,8 @@ release-good o s h = released_case (Good _) _ _ _ _ _
     halt-kept
 
 -- a booked order comes into the hand
-pub took_order : {t : VenueOrder → ℕ} → t blank_order ≡ 0 → (i : ℕ) (s : KernelState) (o : VenueOrder) (l : Row VenueOrder) → Took 8 blank_order i (orders_row s.orders) o l
-    → Held t nil nil s → Held t (λ x. lots_on x o) nil (with_orders s (orders_of l))
+pub took_order : {t : VenueOrder → ℕ} → t blank_order ≡ 0 → (i : ℕ) (s : KernelState) (o : VenueOrder) (l : Arr VenueOrder 8) → Took 8 blank_order i s.orders o l
+    → Held t nil nil s → Held t (λ x. lots_on x o) nil (with_orders s l)
 took_order {t} z i s o l k h =
     record {
       lots = λ x. omega (arith, k.sums (lots_on x) (blank_lots x), h.lots x);
@@ -77,7 +74,7 @@ took_order {t} z i s o l k h =
     }
 
 -- a message comes into the hand
-took_msg : (i : ℕ) (s : KernelState) (m : VenueMsg) (l : Row VenueMsg) → Took 16 blank_msg i (msgs_row s.msgs) m l → Inv s → Held over (λ x. carried_on x m) nil (with_msgs s (msgs_of l))
+took_msg : (i : ℕ) (s : KernelState) (m : VenueMsg) (l : Arr VenueMsg 16) → Took 16 blank_msg i s.msgs m l → Inv s → Held over (λ x. carried_on x m) nil (with_msgs s l)
 took_msg i s m l k h =
     record {
       lots = λ x. omega (arith, k.sums (carried_on x) refl, h.lots x);
@@ -95,15 +92,15 @@ no_order x id (Activate o life) e = absurd (false≢true e)
 no_order x id (Expire i) e = refl
 
 pub removed_held : {t : VenueOrder → ℕ} {unplaced unreported : Side → ℕ} (Q : KernelState → Type 0) (id : ℕ) (s : KernelState) → Held t unplaced unreported s → Q s
-    → ((l : Row VenueMsg) → Held t unplaced unreported (with_msgs s (msgs_of l)) → Q (with_msgs s (msgs_of l))) → Q (remove_expiry id s)
+    → ((l : Arr VenueMsg 16) → Held t unplaced unreported (with_msgs s l) → Q (with_msgs s l)) → Q (remove_expiry id s)
 unfolding remove_expiry
 removed_held {t} {unplaced} {unreported} Q id s h q f =
     some_case Q _ _ _
-    (λ i e. let w = found-live _ blank_msg 16 (msgs_row s.msgs) i e in
-    take_case 16 (λ y. Q (with_msgs s (msgs_of y.list))) blank_msg i (msgs_row s.msgs) (λ m l k. f l (out i m l k w.2)) (λ _. q))
+    (λ i e. let w = found-live _ blank_msg 16 s.msgs i e in
+    take_case 16 (λ y. Q (with_msgs s y.list)) blank_msg i s.msgs (λ m l k. f l (out i m l k w.2)) (λ _. q))
     (λ _. q)
   where
-    out : (i : ℕ) (m : VenueMsg) (l : Row VenueMsg) → Took 16 blank_msg i (msgs_row s.msgs) m l → is_expiry id (get_or s.msgs.slots i blank_msg) ≡ true → Held t unplaced unreported (with_msgs s (msgs_of l))
+    out : (i : ℕ) (m : VenueMsg) (l : Arr VenueMsg 16) → Took 16 blank_msg i s.msgs m l → is_expiry id (get_or s.msgs.slots i blank_msg) ≡ true → Held t unplaced unreported (with_msgs s l)
     out i m l k e =
         record {
           lots = λ x. let z : carried_on x m ≡ 0 = no_order x id m.kind (rw k.is e) in omega (arith, k.sums (carried_on x) refl, h.lots x);
@@ -130,13 +127,13 @@ book-good o s z h = putting-kept _ _ s λ l a.
       few_deliveries = h.few_deliveries;
     }
 
-expiry_good : (expiry : MaybeU64) (id : ℕ) (s : KernelState) → Inv s → Good Inv (schedule_expiry expiry id s)
+expiry_good : (expiry : Option ℕ) (id : ℕ) (s : KernelState) → Inv s → Good Inv (schedule_expiry expiry id s)
 unfolding schedule_expiry schedule
 expiry_good expiry id s h = word_kept _ (λ at. word_kept _ (λ n. putting-kept _ _ _ (λ l a.
     record { lots = λ x. omega (arith, a.sums (carried_on x), h.lots x); no_terminal = h.no_terminal; balanced = h.balanced; few_orders = h.few_orders; few_msgs = a.room; few_deliveries = h.few_deliveries }))
     halt-kept) (ran-kept h)
 
-accept-good : (c : Config) (o : VenueOrder) (expiry : MaybeU64) (s t : KernelState) → over o ≡ 0 → Held over (λ x. lots_on x o) nil t → Good Inv (accept c o expiry s t)
+accept-good : (c : Config) (o : VenueOrder) (expiry : Option ℕ) (s t : KernelState) → over o ≡ 0 → Held over (λ x. lots_on x o) nil t → Good Inv (accept c o expiry s t)
 unfolding accept
 accept-good c o expiry s t z h = then_kept (plain_report_good c _ t h) (λ u g. then_kept (book-good o u z g) (expiry_good expiry o.id))
 
@@ -144,7 +141,7 @@ reject-good : (c : Config) (o : VenueOrder) (s t : KernelState) → Held over (�
 unfolding reject
 reject-good c o s t h = then_kept (release-good o t h) (λ u g. then_kept (plain_report_good c _ u g) (λ v k. await-kept o v (λ _. k) k))
 
-activate-good : (c : Config) (o : VenueOrder) (expiry : MaybeU64) (s : KernelState) → Held over (λ x. lots_on x o) nil s → Good Inv (activate c o expiry s)
+activate-good : (c : Config) (o : VenueOrder) (expiry : Option ℕ) (s : KernelState) → Held over (λ x. lots_on x o) nil s → Good Inv (activate c o expiry s)
 unfolding activate
 activate-good c o expiry s h = stamp_then s _ (λ n. pick-kept _ (accept-good c _ expiry s _ refl h) (reject-good c _ s _ h))
 
@@ -163,7 +160,7 @@ unfolding cancel_activation
 pending_good c s i t h = taking-kept (λ m l k. go _ m.kind _ (took_msg i t m l k h)) (λ _. ran-kept h)
   where
     go : (r : VenueOrder → ReportRec) (k : MsgKind) (u : KernelState) → Held over (λ x. carried_by x k) nil u
-        → Good Inv (on_activation k (λ o. and_then (release o u) (queue_delivery c (r o) fill.None)) (ran_to u))
+        → Good Inv (on_activation k (λ o. and_then (release o u) (queue_delivery c (r o) None)) (ran_to u))
     go r (Cancel j) u g = ran-kept g
     go r (Activate o life) u g = then_kept (release-good o u g) (plain_report_good c _)
     go r (Expire j) u g = ran-kept g

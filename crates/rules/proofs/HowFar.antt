@@ -7,7 +7,6 @@ use lib.Dec.{eqb}
 use lib.ListN.{length, length-append, length-take}
 use Rattle.lists.specs.Lists.{below, total}
 use Rattle.lists.proofs.Cases.{pick_case}
-use Rattle.msgs.specs.Rows.{msgs_row}
 use Rattle.book.specs.declared.MsgKind.{MsgKind}
 use Rattle.book.specs.declared.MsgKind.TheVariants.{Cancel, Activate, Expire}
 use Rattle.book.specs.declared.VenueMsg.{VenueMsg}
@@ -41,7 +40,7 @@ few-raisable (m ∷ l) = let e = few-raisable l in let w = go m.kind in omega ar
 
 -- messages within their capacity can raise 80 events
 few-msgs : (s : KernelState) → Fitting s → msgs_events s.msgs ≤ 80
-few-msgs s f = omega (arith, f.msgs, few-raisable (below (msgs_row s.msgs)), length-take s.msgs.count s.msgs.slots)
+few-msgs s f = omega (arith, f.msgs, few-raisable (below s.msgs), length-take s.msgs.count s.msgs.slots)
 
 -- a halt adds its event
 answer-few : {H : KernelState → Type 0} {P : ℕ → KernelState → Type 0} {n : ℕ} (r : Run) → Within H n P r → length (answer r).events ≤ n + 1

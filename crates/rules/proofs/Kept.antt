@@ -1,14 +1,12 @@
 -- Runs that keep a property, whatever it is: P of the state where a run ran to its end, L where the walk was left, E where the data ended, nothing where it halted.
 -- One law for each way in which the rules join their steps. Assumes nothing.
+use Rattle.std.specs.Prelude.{Option}
 use Prim.Native.Nat.{ℕ, zero, suc, ◌≤◌}
 use mathlib.Core.Bool.{Bool, true, false}
 use mathlib.Core.List.{List}
-use mathlib.Core.Option.{Option}
 use mathlib.Core.Path.{◌≡◌, refl}
-use Rattle.numbers.specs.Choice.{pick}
-use Rattle.numbers.specs.Words.{on_word}
-use Rattle.numbers.specs.declared.MaybeU64.{MaybeU64}
-use Rattle.lists.specs.Lists.{Row, on_some, put_at, taken_at}
+use Rattle.numbers.specs.Choice.{pick, on_some}
+use Rattle.lists.specs.Lists.{put_at, taken_at}
 use Rattle.lists.proofs.Cases.{pick_case, some_case}
 use Rattle.lists.proofs.Sums.{put_case, take_case, Added, Took}
 use Rattle.book.specs.declared.VenueMsg.{VenueMsg}
@@ -19,6 +17,7 @@ use Rattle.state.specs.declared.KernelState.{KernelState}
 use Rattle.rules.specs.Run.{Outcome, Run, ran, left, halt, ended, ran_to, raised, halt_at, on_ran, after, and_then, putting, taking, Turn, again, last, on_turn, iter}
 use Rattle.rules.proofs.Cases.{word_case}
 use Rattle.rules.proofs.Loop.{run_of}
+use Rattle.lists.specs.declared.Arr.{Arr}
 
 abbrev pub KeptAt : (KernelState → Type 0) → (List VenueMsg → KernelState → Type 0) → (KernelState → Type 0) → Outcome → KernelState → Type 0
 KeptAt L E P ran s = P s
@@ -56,17 +55,17 @@ module _ {L : KernelState → Type 0} {E : List VenueMsg → KernelState → Typ
   pub some-kept : {A : Type 0} (o : Option A) {k : A → Run} {z : Run} → ((x : A) → Kept L E P (k x)) → Kept L E P z → Kept L E P (on_some o k z)
   some-kept o h g = some_case (Kept L E P) o _ _ (λ x _. h x) (λ _. g)
 
-  pub word_kept : (w : MaybeU64) {k : ℕ → Run} {z : Run} → ((n : ℕ) → Kept L E P (k n)) → Kept L E P z → Kept L E P (on_word w k z)
+  pub word_kept : (w : Option ℕ) {k : ℕ → Run} {z : Run} → ((n : ℕ) → Kept L E P (k n)) → Kept L E P z → Kept L E P (on_some w k z)
   word_kept w h g = word_case (Kept L E P) w _ _ (λ n _. h n) (λ _. g)
 
   -- ---- an entry out of a list, an entry into a list
-  pub taking-kept : {A : Type 0} {most : ℕ} {d : A} {i : ℕ} {r : Row A} {k : A → Row A → Run} {z : Run}
-      → ((x : A) (l : Row A) → Took most d i r x l → Kept L E P (k x l)) → ((r.count ≤ most → r.count ≤ i) → Kept L E P z) → Kept L E P (taking (taken_at most d i r) k z)
+  pub taking-kept : {A : Type 0} {size : ℕ} {most : ℕ} {d : A} {i : ℕ} {r : Arr A size} {k : A → Arr A size → Run} {z : Run}
+      → ((x : A) (l : Arr A size) → Took most d i r x l → Kept L E P (k x l)) → ((r.count ≤ most → r.count ≤ i) → Kept L E P z) → Kept L E P (taking (taken_at most d i r) k z)
   unfolding taking on_some
   taking-kept {most} {d} {i} {r} {k} {z} h g = take_case most (λ t. Kept L E P (on_some t.got (λ x. k x t.list) z)) d i r h g
 
-  pub putting-kept : {A : Type 0} {most : ℕ} (i : ℕ) {v : A} {r : Row A} (k : Row A → KernelState) (s : KernelState)
-      → ((l : Row A) → Added most v r l → P (k l)) → Kept L E P (putting (put_at most i v r) k s)
+  pub putting-kept : {A : Type 0} {size : ℕ} {most : ℕ} (i : ℕ) {v : A} {r : Arr A size} (k : Arr A size → KernelState) (s : KernelState)
+      → ((l : Arr A size) → Added most v r l → P (k l)) → Kept L E P (putting (put_at most i v r) k s)
   unfolding putting pick
   putting-kept {most} i {v} {r} k s h =
       put_case most (λ p. Kept L E P (pick p.ok (ran_to (k p.list)) (halt_at CounterOverflow s))) i v r (λ l a. ran-kept (h l a)) halt-kept

@@ -1,23 +1,15 @@
 -- A call's last event tells what it did: event 7 where it halted, event 6 where it reached end of data, and no other event of the call is one of these. Assumes nothing.
+use Rattle.std.specs.Prelude.{Option, Some, None}
 use Prim.Native.Nat.{ℕ, zero, suc, ◌+◌}
 use mathlib.Core.Bool.{Bool}
 use mathlib.Core.List.{List, [], ◌∷◌, ◌++◌, map, append_assoc}
 use mathlib.Core.Logic.{◌↔◌}
-use mathlib.Core.Option.{Option, none, some}
 use mathlib.Core.Path.{◌≡◌, refl, sym, ap, ◌∙◌}
 use native.Mathlib.Omega.{arith}
-use Rattle.numbers.specs.Choice.{pick}
-use Rattle.numbers.specs.Words.{on_word}
-use Rattle.numbers.specs.Position.{on_moved}
-use Rattle.numbers.specs.declared.MaybeU64.{MaybeU64}
-use Rattle.numbers.specs.declared.position.Moved.{Moved}
-use Rattle.numbers.specs.declared.position.Moved.TheVariants.{Out, To}
+use Rattle.numbers.specs.Choice.{pick, on_some}
 use Rattle.numbers.specs.declared.position.Position.{Position}
-use Rattle.lists.specs.Lists.{Row, Put, Taken, on_some, live}
+use Rattle.lists.specs.Lists.{Put, Taken, live}
 use Rattle.lists.proofs.Cases.{pick_case, some_case}
-use Rattle.msgs.specs.Rows.{msgs_row}
-use Rattle.book.specs.declared.MaybeFill.{MaybeFill}
-use Rattle.book.specs.declared.MaybeFill.TheVariants as fill
 use Rattle.book.specs.declared.MsgKind.{MsgKind}
 use Rattle.book.specs.declared.MsgKind.TheVariants.{Cancel, Activate, Expire}
 use Rattle.book.specs.declared.ReportRec.{ReportRec}
@@ -42,6 +34,8 @@ use Rattle.rules.specs.Calls.{Did, refused, stays, halts, ends, Answer, answer_o
 use Rattle.rules.specs.Conservation.{Each}
 use Rattle.rules.proofs.Cases.{word_case}
 use Rattle.rules.proofs.Loop.{run_of}
+use Rattle.book.specs.declared.FillRec.{FillRec}
+use Rattle.lists.specs.declared.Arr.{Arr}
 
 -- ---- the claim
 -- an event that is neither 6, end of data, nor 7, halted
@@ -70,8 +64,8 @@ pub record LastEvent (a : Answer) : Type 0 where
   pub behind : Behind a.did front a.events
 
 unfoldable pub last_in : {A : Type 0} → List A → Option A
-last_in [] = none
-last_in (x ∷ []) = some x
+last_in [] = None
+last_in (x ∷ []) = Some x
 last_in (x ∷ y ∷ l) = last_in (y ∷ l)
 
 -- ---- of a run
@@ -126,19 +120,19 @@ pick-signals b h k = pick_case Signals b _ _ (λ _. h) (λ _. k)
 some-signals : {A : Type 0} (o : Option A) {k : A → Run} {z : Run} → ((x : A) → Signals (k x)) → Signals z → Signals (on_some o k z)
 some-signals o h g = some_case Signals o _ _ (λ x _. h x) (λ _. g)
 
-word-signals : (w : MaybeU64) {k : ℕ → Run} {z : Run} → ((n : ℕ) → Signals (k n)) → Signals z → Signals (on_word w k z)
+word-signals : (w : Option ℕ) {k : ℕ → Run} {z : Run} → ((n : ℕ) → Signals (k n)) → Signals z → Signals (on_some w k z)
 word-signals w h g = word_case Signals w _ _ (λ n _. h n) (λ _. g)
 
-moved-signals : (m : Moved) {k : Position → Run} {z : Run} → ((p : Position) → Signals (k p)) → Signals z → Signals (on_moved m k z)
-unfolding on_moved
-moved-signals Out h g = g
-moved-signals (To p) h g = h p
+moved-signals : (m : Option Position) {k : Position → Run} {z : Run} → ((p : Position) → Signals (k p)) → Signals z → Signals (on_some m k z)
+unfolding on_some
+moved-signals None h g = g
+moved-signals (Some p) h g = h p
 
-taking-signals : {A : Type 0} (t : Taken A) {k : A → Row A → Run} {z : Run} → ((x : A) (l : Row A) → Signals (k x l)) → Signals z → Signals (taking t k z)
+taking-signals : {A : Type 0} {size : ℕ} (t : Taken A size) {k : A → Arr A size → Run} {z : Run} → ((x : A) (l : Arr A size) → Signals (k x l)) → Signals z → Signals (taking t k z)
 unfolding taking
 taking-signals t h g = some-signals t.got (λ x. h x t.list) g
 
-putting-signals : {A : Type 0} (p : Put A) (k : Row A → KernelState) (s : KernelState) → Signals (putting p k s)
+putting-signals : {A : Type 0} {size : ℕ} (p : Put A size) (k : Arr A size → KernelState) (s : KernelState) → Signals (putting p k s)
 unfolding putting
 putting-signals p k s = pick-signals _ ran-signals halt-signals
 
@@ -160,7 +154,7 @@ delayed-signals : (c : Config) (from base : ℕ) (s : KernelState) {k : ℕ → 
 unfolding delayed
 delayed-signals c from base s h = word-signals _ (λ at. h at _) halt-signals
 
-report_signals : (c : Config) (r : ReportRec) (f : MaybeFill) (s : KernelState) → Signals (queue_delivery c r f s)
+report_signals : (c : Config) (r : ReportRec) (f : Option FillRec) (s : KernelState) → Signals (queue_delivery c r f s)
 unfolding queue_delivery reported push_delivery
 report_signals c r f s = then_signals (delayed-signals c _ _ s (λ at t. raised-signals tt)) (λ u. putting-signals _ _ u)
 
@@ -173,7 +167,7 @@ await-signals : (o : VenueOrder) (s : KernelState) → Signals (await_marked o s
 unfolding await_marked await
 await-signals o s = pick-signals _ (putting-signals _ _ s) ran-signals
 
-accept-signals : (c : Config) (o : VenueOrder) (expiry : MaybeU64) (s t : KernelState) → Signals (accept c o expiry s t)
+accept-signals : (c : Config) (o : VenueOrder) (expiry : Option ℕ) (s t : KernelState) → Signals (accept c o expiry s t)
 unfolding accept book schedule_expiry schedule
 accept-signals c o expiry s t =
     then_signals (report_signals c _ _ t) (λ u. then_signals (putting-signals _ _ u) (λ v. word-signals _ (λ at. word-signals _ (λ n. putting-signals _ _ _) halt-signals) ran-signals))
@@ -182,7 +176,7 @@ reject-signals : (c : Config) (o : VenueOrder) (s t : KernelState) → Signals (
 unfolding reject
 reject-signals c o s t = then_signals (release-signals o t) (λ u. then_signals (report_signals c _ _ u) (await-signals o))
 
-activate-signals : (c : Config) (o : VenueOrder) (expiry : MaybeU64) (s : KernelState) → Signals (activate c o expiry s)
+activate-signals : (c : Config) (o : VenueOrder) (expiry : Option ℕ) (s : KernelState) → Signals (activate c o expiry s)
 unfolding activate
 activate-signals c o expiry s = then_signals (stamp-signals s) (λ t. pick-signals _ (accept-signals c _ expiry s t) (reject-signals c _ s t))
 
@@ -236,10 +230,10 @@ unfolding match_row sweep
 row-signals c row s = word-signals _ (λ mid2. then_signals (match_signals c row _ 0 _) (λ t. sweep-signals _ 0 t)) halt-signals
 
 -- ---- deliveries
-move_signals : (f : MaybeFill) (s : KernelState) → Signals (move_agent f s)
+move_signals : (f : Option FillRec) (s : KernelState) → Signals (move_agent f s)
 unfolding count_fill
-move_signals fill.None s = ran-signals
-move_signals (fill.Some f) s = moved-signals _ (λ p. word-signals _ (λ n. ran-signals) halt-signals) halt-signals
+move_signals None s = ran-signals
+move_signals (Some f) s = moved-signals _ (λ p. word-signals _ (λ n. ran-signals) halt-signals) halt-signals
 
 deliver-signals : (s : KernelState) → Signals (deliver_next s)
 unfolding deliver_next count_reject
@@ -269,7 +263,7 @@ ended-signals ms s m n = record { signals = ([], (unfold Each in tt), m, n, refl
 end_signals : (s : KernelState) → Signals (end_of_data s)
 unfolding end_of_data close_data
 end_signals s = then_signals (all-signals _ s)
-    (λ t. let dropped : List VenueMsg = live 16 (msgs_row t.msgs) in
+    (λ t. let dropped : List VenueMsg = live 16 t.msgs in
     after-signals (map dropped_event dropped) (dropped_plain dropped) (word-signals _ (λ m. word-signals _ (λ n. ended-signals _ _ _ _) halt-signals) halt-signals))
 
 -- ---- the walk and the phases
@@ -335,17 +329,17 @@ pass_last_event s =
     (λ _. silent refl)
 
 -- ---- both ways, by the last event
-last-behind : {A : Type 0} (l : List A) (x : A) → last_in (l ++ x ∷ []) ≡ some x
+last-behind : {A : Type 0} (l : List A) (x : A) → last_in (l ++ x ∷ []) ≡ Some x
 unfolding last_in
 last-behind [] x = refl
 last-behind (y ∷ []) x = refl
 last-behind (y ∷ z ∷ l) x = last-behind (z ∷ l) x
 
-last-plain : (l : List KernelEvent) → Each Plain l → (e : KernelEvent) → last_in l ≡ some e → Plain e
+last-plain : (l : List KernelEvent) → Each Plain l → (e : KernelEvent) → last_in l ≡ Some e → Plain e
 unfolding last_in Each
 last-plain [] h e p = absurd (nothing-there p)
   where
-    nothing-there : none ≡ some e → ⊥
+    nothing-there : None ≡ Some e → ⊥
     nothing-there q = let z : ◌≡◌ {A = ℕ} 0 1 = cc in omega arith
 last-plain (x ∷ []) h e p = let q : x ≡ e = cc in rw q at h.0
 last-plain (x ∷ y ∷ l) h e p = last-plain (y ∷ l) h.1 e p
@@ -354,23 +348,23 @@ apart : ◌≡◌ {A = ℕ} 0 1 → ⊥
 apart z = absurd (omega arith)
 
 -- "halts h" exactly where the last event is `Halted h`
-pub halted-last : (a : Answer) → LastEvent a → (h : HaltReason) → (a.did ≡ halts h) ↔ (last_in a.events ≡ some (Halted h))
+pub halted-last : (a : Answer) → LastEvent a → (h : HaltReason) → (a.did ≡ halts h) ↔ (last_in a.events ≡ Some (Halted h))
 halted-last a t h = go a.did a.events t.behind
   where
-    go : (d : Did) (es : List KernelEvent) → Behind d t.front es → (d ≡ halts h) ↔ (last_in es ≡ some (Halted h))
+    go : (d : Did) (es : List KernelEvent) → Behind d t.front es → (d ≡ halts h) ↔ (last_in es ≡ Some (Halted h))
     go (refused r) es q = ((λ p. absurd (apart (cc))), (λ p. absurd (last-plain t.front t.plain (Halted h) (rw q at p))))
     go stays es q = ((λ p. absurd (apart (cc))), (λ p. absurd (last-plain t.front t.plain (Halted h) (rw q at p))))
-    go (halts k) es q = ((λ p. rw (q, last-behind t.front (Halted k)) (cc)), (λ p. let e : some (Halted k) ≡ some (Halted h) = rw (q, last-behind t.front (Halted k)) at p in cc))
+    go (halts k) es q = ((λ p. rw (q, last-behind t.front (Halted k)) (cc)), (λ p. let e : Some (Halted k) ≡ Some (Halted h) = rw (q, last-behind t.front (Halted k)) at p in cc))
     go (ends dropped) es q =
-        ((λ p. absurd (apart (cc))), (λ p. let e : some (EndOfData q.0 q.1) ≡ some (Halted h) = rw (q.2, last-behind t.front (EndOfData q.0 q.1)) at p in absurd (apart (cc))))
+        ((λ p. absurd (apart (cc))), (λ p. let e : Some (EndOfData q.0 q.1) ≡ Some (Halted h) = rw (q.2, last-behind t.front (EndOfData q.0 q.1)) at p in absurd (apart (cc))))
 
 -- "ends" exactly where the last event is `EndOfData`
-pub ended-last : (a : Answer) → LastEvent a → ((dropped : List VenueMsg) × (a.did ≡ ends dropped)) ↔ ((m : ℕ) × (n : ℕ) × (last_in a.events ≡ some (EndOfData m n)))
+pub ended-last : (a : Answer) → LastEvent a → ((dropped : List VenueMsg) × (a.did ≡ ends dropped)) ↔ ((m : ℕ) × (n : ℕ) × (last_in a.events ≡ Some (EndOfData m n)))
 ended-last a t = go a.did a.events t.behind
   where
-    go : (d : Did) (es : List KernelEvent) → Behind d t.front es → ((dropped : List VenueMsg) × (d ≡ ends dropped)) ↔ ((m : ℕ) × (n : ℕ) × (last_in es ≡ some (EndOfData m n)))
+    go : (d : Did) (es : List KernelEvent) → Behind d t.front es → ((dropped : List VenueMsg) × (d ≡ ends dropped)) ↔ ((m : ℕ) × (n : ℕ) × (last_in es ≡ Some (EndOfData m n)))
     go (refused r) es q = ((λ p. let e = p.1 in absurd (apart (cc))), (λ p. absurd (last-plain t.front t.plain (EndOfData p.0 p.1) (rw q at p.2))))
     go stays es q = ((λ p. let e = p.1 in absurd (apart (cc))), (λ p. absurd (last-plain t.front t.plain (EndOfData p.0 p.1) (rw q at p.2))))
     go (halts k) es q =
-        ((λ p. let e = p.1 in absurd (apart (cc))), (λ p. let e : some (Halted k) ≡ some (EndOfData p.0 p.1) = rw (q, last-behind t.front (Halted k)) at p.2 in absurd (apart (cc))))
+        ((λ p. let e = p.1 in absurd (apart (cc))), (λ p. let e : Some (Halted k) ≡ Some (EndOfData p.0 p.1) = rw (q, last-behind t.front (Halted k)) at p.2 in absurd (apart (cc))))
     go (ends dropped) es q = ((λ p. (q.0, q.1, rw q.2 (last-behind t.front (EndOfData q.0 q.1)))), (λ p. (dropped, refl)))

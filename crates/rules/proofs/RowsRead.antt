@@ -1,17 +1,13 @@
 -- A call reads no row but `cur_row` and 17 less its observations from the cursor on: lists that agree there give the same answer. Assumes nothing.
+use Rattle.std.specs.Prelude.{Option, Some, None}
 use Prim.Native.Nat.{ℕ, zero, suc, ◌+◌, ◌/◌, ◌≤◌, ◌<◌}
 use mathlib.Core.Bool.{Bool, true, false}
 use mathlib.Core.List.{List}
-use mathlib.Core.Option.{Option}
 use mathlib.Core.Path.{◌≡◌, refl, sym, ap, ◌∙◌}
 use native.Mathlib.Omega.{arith}
 use lib.Dec.{ltb}
 use lib.ListN.{length}
-use Rattle.numbers.specs.Choice.{pick}
-use Rattle.numbers.specs.Words.{on_word}
-use Rattle.numbers.specs.declared.MaybeU64.{MaybeU64}
-use Rattle.numbers.specs.declared.MaybeU64.TheVariants as u64
-use Rattle.lists.specs.Lists.{on_some}
+use Rattle.numbers.specs.Choice.{pick, on_some}
 use Rattle.lists.proofs.Cases.{pick_case}
 use Rattle.book.specs.declared.config.Config.{Config}
 use Rattle.book.specs.declared.config.KernelTick.{KernelTick}
@@ -39,13 +35,13 @@ same_end : (u v : List ℕ) (i : ℕ) → Alike u v i → ltb i (length u / 5) �
 same_end u v i h = sym (has_row u i) ∙ ap (λ (o : Option KernelTick). on_some o (λ (_ : KernelTick). true) false) h ∙ has_row v i
 
 -- alike at the row that stands in `cur_row`, if one does
-abbrev AtCurrent : List ℕ → List ℕ → MaybeU64 → Type 0
-AtCurrent u v w = (i : ℕ) → w ≡ u64.Some i → Alike u v i
+abbrev AtCurrent : List ℕ → List ℕ → Option ℕ → Type 0
+AtCurrent u v w = (i : ℕ) → w ≡ Some i → Alike u v i
 
-word_alike : (w : MaybeU64) (k j : ℕ → Run) (z : Run) → ((i : ℕ) → w ≡ u64.Some i → k i ≡ j i) → on_word w k z ≡ on_word w j z
-unfolding on_word
-word_alike u64.None k j z h = refl
-word_alike (u64.Some i) k j z h = h i refl
+word_alike : (w : Option ℕ) (k j : ℕ → Run) (z : Run) → ((i : ℕ) → w ≡ Some i → k i ≡ j i) → on_some w k z ≡ on_some w j z
+unfolding on_some
+word_alike None k j z h = refl
+word_alike (Some i) k j z h = h i refl
 
 module _ (c : Config) (u v : List ℕ) where
   -- ---- the two turns

@@ -1,20 +1,17 @@
 -- Document 01's sample run, of the replay program: its start, that the definitions give its eight events, and that the theorem of conservation speaks of it.
 -- Assumes nothing.
+use Rattle.std.specs.Prelude.{None}
 use Prim.Native.Nat.{ℕ, ◌+◌}
 use mathlib.Core.Bool.{false}
 use mathlib.Core.List.{List, [], ◌∷◌, ◌++◌}
 use mathlib.Core.Path.{◌≡◌, refl}
 use lib.IntN.{pos}
 use lib.ListN.{replicate}
-use Rattle.numbers.specs.Choice.{pick}
-use Rattle.numbers.specs.Words.{fits, fitting, on_word}
-use Rattle.numbers.specs.Position.{ranged, raised_by, lowered_by, on_moved}
-use Rattle.numbers.specs.declared.MaybeU64.TheVariants as u64
-use Rattle.lists.specs.Lists.{on_some, live, insert_at, remove_at, before, found_in, placed, without, put_at, taken_at, entry_at, store_at, emptied, total}
+use Rattle.numbers.specs.Choice.{pick, on_some}
+use Rattle.numbers.specs.Words.{fits, fitting}
+use Rattle.numbers.specs.Position.{ranged, raised_by, lowered_by}
+use Rattle.lists.specs.Lists.{live, insert_at, remove_at, before, found_in, placed, without, put_at, taken_at, entry_at, store_at, emptied, total}
 use Rattle.book.specs.Entries.{blank_msg, blank_open, on_side}
-use Rattle.orders.specs.Rows.{empty_orders}
-use Rattle.deliveries.specs.Rows.{empty_deliveries}
-use Rattle.observed.specs.Rows.{empty_observed}
 use Rattle.book.specs.declared.ExecKind.{ExecKind}
 use Rattle.book.specs.declared.ExecKind.TheVariants as exec
 use Rattle.book.specs.declared.MsgKind.TheVariants.{Activate}
@@ -42,6 +39,9 @@ use Rattle.rules.specs.Phases.{row_at, queue_observation, match_phase, before_ma
 use Rattle.rules.specs.Calls.{ends, Answer, answer, counts_fit, advance, pass}
 use Rattle.rules.specs.Conservation.{lots_on, carried_on, booked, queued, Each, Conserved, Call, advances, passes, Claim}
 use Rattle.rules.proofs.Conservation.{conservation}
+use Rattle.deliveries.specs.Rows.{empty_deliveries}
+use Rattle.observed.specs.Rows.{empty_observed}
+use Rattle.orders.specs.Rows.{empty_orders}
 
 -- c 1000 0 1 0 7 9
 -- f now
@@ -58,17 +58,17 @@ rows = 20 ∷ 99 ∷ 4 ∷ 101 ∷ 6 ∷ []
 
 abbrev pub start : KernelState
 start = record {
-  control = record { phase = ObsQueued; resume = ObsQueued; cursor = 0; cur_row = u64.None; step = 0; status = Running };
+  control = record { phase = ObsQueued; resume = ObsQueued; cursor = 0; cur_row = None; step = 0; status = Running };
   clock = record { now_ns = 0; last_delivery_ns = 0; last_observed_ns = 0 };
   rng_latency = 7;
   seqs = record { stamp_seq = 0; next_msg_seq = 1; next_exec_id = 0 };
   orders = empty_orders;
   msgs = record { slots = record { eff_ns = 10; seq = 0; kind = Activate order_one 0 } ∷ replicate 15 blank_msg; count = 1 };
   awaiting = empty_orders;
-  gate = record { venue_pos = record { lots = pos 0 }; live_buy_lots = 5; live_sell_lots = 0; mark2 = u64.None };
+  gate = record { venue_pos = record { lots = pos 0 }; live_buy_lots = 5; live_sell_lots = 0; mark2 = None };
   deliveries = empty_deliveries;
   observed = empty_observed;
-  agent = record { pos = record { lots = pos 0 }; last_obs_row = u64.None; delivered_local_rejects = 0; delivered_fills = 0 };
+  agent = record { pos = record { lots = pos 0 }; last_obs_row = None; delivered_local_rejects = 0; delivered_fills = 0 };
   account = record { slots = record { order_id = 1; awaiting_cancel_outcome = false } ∷ replicate 7 blank_open; count = 1 };
   counters = record { halts = 0; venue_fills = 0; eof_dropped_msgs = 0; eof_dropped_obs = 0 };
 }
@@ -78,7 +78,7 @@ report_of ts seq k lots = record { ts_ns = ts; seq = seq; order_id = 1; side = B
 
 -- advance, pass, advance. To unfold it is to unfold the rules
 unfoldable pub third : Answer
-unfolding pick fits fitting on_word ranged raised_by lowered_by on_moved on_some live insert_at remove_at before found_in placed without put_at taken_at entry_at store_at emptied total on_side and_then putting taking iter next_state output draw stamp delayed_time delay delayed push_delivery reported queue_delivery released release await await_marked book schedule remove_expiry schedule_expiry accept reject activate activation cancel_booked cancel_activation cancel_awaiting cancel expire_booked expire apply_next_msg matches ahead lots_of queue_fill_lots gate_filled filled_by fill_report fill_counted fill_event fill_at fills_of fills_at match_at match_from leave terminal_at sweep_from sweep gate_marked match_row count_fill count_reject on_delivery deliver_next deliver_all empty_queues close_data end_of_data pop_observation due_by next_msg next_delivery next_observation sooner next_of event_turn weight run_events row_at queue_observation match_phase before_match settle_row settle next_row obs_queued phase_turn turns phases answer counts_fit advance pass
+unfolding pick fits fitting on_some ranged raised_by lowered_by live insert_at remove_at before found_in placed without put_at taken_at entry_at store_at emptied total on_side and_then putting taking iter next_state output draw stamp delayed_time delay delayed push_delivery reported queue_delivery released release await await_marked book schedule remove_expiry schedule_expiry accept reject activate activation cancel_booked cancel_activation cancel_awaiting cancel expire_booked expire apply_next_msg matches ahead lots_of queue_fill_lots gate_filled filled_by fill_report fill_counted fill_event fill_at fills_of fills_at match_at match_from leave terminal_at sweep_from sweep gate_marked match_row count_fill count_reject on_delivery deliver_next deliver_all empty_queues close_data end_of_data pop_observation due_by next_msg next_delivery next_observation sooner next_of event_turn weight run_events row_at queue_observation match_phase before_match settle_row settle next_row obs_queued phase_turn turns phases answer counts_fit advance pass
 third = advance config rows (pass (advance config rows start).state).state
 
 events : List KernelEvent

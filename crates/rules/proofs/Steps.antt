@@ -1,12 +1,10 @@
 -- Stamps, delays, reports and orders that await: what they keep, of any property. Assumes nothing.
 use Prim.Native.Nat.{ℕ}
 use mathlib.Core.List.{List}
-use Rattle.orders.specs.Rows.{orders_of}
 use Rattle.state.specs.With.{with_seqs, with_rng_latency, with_awaiting, seqs_stamp_seq}
 use Rattle.book.specs.declared.VenueMsg.{VenueMsg}
 use Rattle.book.specs.declared.VenueOrder.{VenueOrder}
 use Rattle.book.specs.declared.config.Config.{Config}
-use Rattle.orders.specs.declared.Orders.{Orders}
 use Rattle.state.specs.declared.HaltReason.TheVariants.{CounterOverflow}
 use Rattle.state.specs.declared.KernelState.{KernelState}
 use Rattle.rules.specs.Run.{Run, and_then}
@@ -14,6 +12,7 @@ use Rattle.rules.specs.Report.{stamp, delayed}
 use Rattle.rules.specs.Messages.{await, await_marked}
 use Rattle.rules.proofs.Cases.{word_case}
 use Rattle.rules.proofs.Kept.{Kept, ran-kept, halt-kept, pick-kept, word_kept, putting-kept, ran_then, halt_then}
+use Rattle.orders.specs.Rows.{Orders}
 
 module _ {L : KernelState → Type 0} {E : List VenueMsg → KernelState → Type 0} {P : KernelState → Type 0} where
   pub stamp_then : (s : KernelState) (k : KernelState → Run) → ((n : ℕ) → Kept L E P (k (with_seqs s (seqs_stamp_seq s.seqs n)))) → Kept L E P (and_then (stamp s) k)
@@ -27,4 +26,4 @@ module _ {L : KernelState → Type 0} {E : List VenueMsg → KernelState → Typ
 
   pub await-kept : (o : VenueOrder) (s : KernelState) → ((x : Orders) → P (with_awaiting s x)) → P s → Kept L E P (await_marked o s)
   unfolding await_marked await
-  await-kept o s h p = pick-kept _ (putting-kept _ _ s (λ l _. h (orders_of l))) (ran-kept p)
+  await-kept o s h p = pick-kept _ (putting-kept _ _ s (λ l _. h l)) (ran-kept p)

@@ -1,7 +1,7 @@
 -- The two calls, and 'Refused or halted'.
 use Rattle.std.specs.Prelude.{ℕ, ◌+◌, ◌%◌, Bool, true, false, ◌&&◌, List, [], ◌∷◌, ◌++◌, leb, eqb, length}
-use Rattle.numbers.specs.Choice.{pick}
-use Rattle.numbers.specs.Words.{fitting, on_word}
+use Rattle.numbers.specs.Choice.{pick, on_some}
+use Rattle.numbers.specs.Words.{fitting}
 use Rattle.book.specs.Capacities.{orders_capacity, msgs_capacity, deliveries_capacity, observed_capacity, account_capacity}
 use Rattle.state.specs.With.{with_control, with_counters, control_phase, control_step, control_status, counters_halts}
 use Rattle.book.specs.declared.VenueMsg.{VenueMsg}
@@ -86,7 +86,7 @@ pass s =
     pick (counts_fit s)
     (pick (is_paused s.control.phase)
     (pick (can_resume s.control.resume)
-    (on_word (fitting (s.control.step + 1)) (λ n. passed n s) (refuse 105 s))
+    (on_some (fitting (s.control.step + 1)) (λ n. passed n s) (refuse 105 s))
     (refuse 104 s))
     (refuse 103 s))
     (refuse 102 s)

@@ -1,13 +1,8 @@
 -- 'Conservation', demand 3: what is claimed of every list of calls. The proof is proofs/Conservation.antt.
-use Rattle.std.specs.Prelude.{ℕ, ◌+◌, false, List, [], ◌∷◌, ◌≡◌, pos, ◌-ℤ◌}
+use Rattle.std.specs.Prelude.{ℕ, ◌+◌, false, List, [], ◌∷◌, ◌≡◌, pos, ◌-ℤ◌, Option, Some, None}
 use Rattle.lists.specs.Lists.{below, total}
 use Rattle.book.specs.Entries.{on_side, remaining, is_terminal}
-use Rattle.orders.specs.Rows.{orders_row}
-use Rattle.msgs.specs.Rows.{msgs_row}
-use Rattle.deliveries.specs.Rows.{deliveries_row}
 use Rattle.book.specs.declared.Delivery.{Delivery}
-use Rattle.book.specs.declared.MaybeFill.{MaybeFill}
-use Rattle.book.specs.declared.MaybeFill.TheVariants as fill
 use Rattle.book.specs.declared.MsgKind.{MsgKind}
 use Rattle.book.specs.declared.MsgKind.TheVariants.{Cancel, Activate, Expire}
 use Rattle.book.specs.declared.Side.{Side}
@@ -18,19 +13,20 @@ use Rattle.book.specs.declared.config.Config.{Config}
 use Rattle.state.specs.declared.KernelState.{KernelState}
 use Rattle.rules.specs.Messages.{live_lots}
 use Rattle.rules.specs.Calls.{Did, refused, stays, halts, ends, Answer, advance, pass, Result, returned}
+use Rattle.book.specs.declared.FillRec.{FillRec}
 
 -- ---- "Sums are whole numbers over the slots below the counts"
 -- "booked is being in orders"
 abbrev pub booked : KernelState → List VenueOrder
-booked s = below (orders_row s.orders)
+booked s = below s.orders
 
 -- queued messages
 abbrev pub queued : KernelState → List VenueMsg
-queued s = below (msgs_row s.msgs)
+queued s = below s.msgs
 
 -- the deliveries that are to come
 abbrev pub undelivered : KernelState → List Delivery
-undelivered s = below (deliveries_row s.deliveries)
+undelivered s = below s.deliveries
 
 -- n, if it is of side d
 abbrev pub of_side : Side → Side → ℕ → ℕ
@@ -52,9 +48,9 @@ abbrev pub carried_on : Side → VenueMsg → ℕ
 carried_on d m = carried_by d m.kind
 
 -- the lots of a fill of side d that is not delivered: "an undelivered fill a record in deliveries"
-abbrev pub recorded_by : Side → MaybeFill → ℕ
-recorded_by d fill.None = 0
-recorded_by d (fill.Some f) = of_side d f.side f.qty
+abbrev pub recorded_by : Side → Option FillRec → ℕ
+recorded_by d None = 0
+recorded_by d (Some f) = of_side d f.side f.qty
 
 -- the same of a delivery
 abbrev pub recorded_on : Side → Delivery → ℕ

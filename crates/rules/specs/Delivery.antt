@@ -1,28 +1,20 @@
 -- 'Delivery' and 'End of data'.
-use Rattle.std.specs.Prelude.{ℕ, zero, suc, ◌+◌, Bool, true, false, List, [], ◌∷◌, map}
-use Rattle.numbers.specs.Choice.{pick}
-use Rattle.numbers.specs.Words.{fitting, on_word}
-use Rattle.numbers.specs.Position.{on_moved}
-use Rattle.lists.specs.Lists.{on_some, live, found_in, taken_at, popped, store_at, emptied}
+use Rattle.std.specs.Prelude.{ℕ, zero, suc, ◌+◌, Bool, true, false, List, [], ◌∷◌, map, Option, Some, None}
+use Rattle.numbers.specs.Choice.{pick, on_some}
+use Rattle.numbers.specs.Words.{fitting}
+use Rattle.lists.specs.Lists.{live, found_in, taken_at, popped, store_at, emptied}
 use Rattle.book.specs.Capacities.{msgs_capacity, deliveries_capacity, observed_capacity, account_capacity}
 use Rattle.book.specs.Entries.{blank_msg, blank_delivery, blank_obs, blank_open, is_open_of}
-use Rattle.msgs.specs.Rows.{msgs_row, msgs_of}
-use Rattle.deliveries.specs.Rows.{deliveries_row, deliveries_of}
-use Rattle.observed.specs.Rows.{observed_row, observed_of}
-use Rattle.account.specs.Rows.{account_row, account_of}
 use Rattle.state.specs.With.{with_control, with_msgs, with_deliveries, with_observed, with_agent, with_account, with_counters, control_phase, control_status, agent_pos, agent_delivered_fills, agent_delivered_local_rejects, counters_eof_dropped_msgs, counters_eof_dropped_obs}
 use Rattle.book.specs.declared.Delivery.{Delivery}
 use Rattle.book.specs.declared.ExecKind.{ExecKind}
 use Rattle.book.specs.declared.ExecKind.TheVariants as exec
-use Rattle.book.specs.declared.MaybeFill.{MaybeFill}
-use Rattle.book.specs.declared.MaybeFill.TheVariants as fill
 use Rattle.book.specs.declared.MsgKind.{MsgKind}
 use Rattle.book.specs.declared.MsgKind.TheVariants.{Cancel, Activate, Expire}
 use Rattle.book.specs.declared.Origin.{Origin}
 use Rattle.book.specs.declared.Origin.TheVariants.{Local, Venue}
 use Rattle.book.specs.declared.ReportRec.{ReportRec}
 use Rattle.book.specs.declared.VenueMsg.{VenueMsg}
-use Rattle.account.specs.declared.AgentAccount.{AgentAccount}
 use Rattle.state.specs.declared.HaltReason.TheVariants.{LedgerOverflow, CounterOverflow}
 use Rattle.state.specs.declared.KernelEvent.{KernelEvent}
 use Rattle.state.specs.declared.KernelEvent.TheVariants.{Delivered, EndOfData, DroppedMsg, DroppedExpiry}
@@ -31,21 +23,23 @@ use Rattle.state.specs.declared.Phase.TheVariants as phase
 use Rattle.state.specs.declared.Status.TheVariants as status
 use Rattle.rules.specs.Run.{Run, ended, ran_to, halt_at, raised, after, and_then, taking}
 use Rattle.rules.specs.Matching.{moved}
+use Rattle.book.specs.declared.FillRec.{FillRec}
+use Rattle.account.specs.Rows.{AgentAccount}
 
 -- ---- the agent
 -- "delivery, end counts: counter past 64 bits: 7"
 unfoldable pub count_fill : KernelState → Run
 count_fill s =
-    on_word (fitting (s.agent.delivered_fills + 1))
+    on_some (fitting (s.agent.delivered_fills + 1))
     (λ n. ran_to (with_agent s (agent_delivered_fills s.agent n)))
     (halt_at CounterOverflow s)
 
 -- "moves the agent's position by the fill's record and counts the fill (neither without a record)";
 -- "delivery, after its event: fill above 2^63 − 1, or agent position out of range: 5"
-abbrev pub move_agent : MaybeFill → KernelState → Run
-move_agent fill.None s = ran_to s
-move_agent (fill.Some f) s =
-    on_moved (moved f.side s.agent.pos f.qty)
+abbrev pub move_agent : Option FillRec → KernelState → Run
+move_agent None s = ran_to s
+move_agent (Some f) s =
+    on_some (moved f.side s.agent.pos f.qty)
     (λ p. count_fill (with_agent s (agent_pos s.agent p)))
     (halt_at LedgerOverflow s)
 
@@ -68,7 +62,7 @@ unfoldable pub count_reject : ReportRec → KernelState → Run
 count_reject r s =
     pick (is_rejected r.kind)
     (pick (is_local r.origin)
-    (on_word (fitting (s.agent.delivered_local_rejects + 1))
+    (on_some (fitting (s.agent.delivered_local_rejects + 1))
     (λ n. ran_to (with_agent s (agent_delivered_local_rejects s.agent n)))
     (halt_at CounterOverflow s))
     (ran_to s))
@@ -94,13 +88,13 @@ effect exec.Fill w pending = pick pending awaits closes
 -- the account with the entry at place i so treated
 abbrev pub affected : Effect → ℕ → ℕ → AgentAccount → AgentAccount
 affected stands id i a = a
-affected closes id i a = account_of (taken_at account_capacity blank_open i (account_row a)).list
-affected awaits id i a = account_of (store_at account_capacity i (record { order_id = id; awaiting_cancel_outcome = true }) (account_row a)).list
+affected closes id i a = (taken_at account_capacity blank_open i a).list
+affected awaits id i a = (store_at account_capacity i (record { order_id = id; awaiting_cancel_outcome = true }) a).list
 
 -- "then turns to the first account entry of that order"
 unfoldable pub on_delivery : ReportRec → AgentAccount → AgentAccount
 on_delivery r a =
-    on_some (found_in (is_open_of r.order_id) (live account_capacity (account_row a)))
+    on_some (found_in (is_open_of r.order_id) (live account_capacity a))
     (λ i. affected (effect r.kind r.origin r.cancel_pending) r.order_id i a)
     a
 
@@ -114,7 +108,7 @@ deliver d s =
 
 -- the first delivery, if there is one
 unfoldable pub deliver_next : KernelState → Run
-deliver_next s = taking (popped deliveries_capacity blank_delivery (deliveries_row s.deliveries)) (λ d l. deliver d (with_deliveries s (deliveries_of l))) (ran_to s)
+deliver_next s = taking (popped deliveries_capacity blank_delivery s.deliveries) (λ d l. deliver d (with_deliveries s l)) (ran_to s)
 
 -- ---- "End of data delivers all, writes each dropped message, empties messages and observations, adds to the two counters, sets its status and Terminal, writes event 6; the clock stands."
 -- n deliveries
@@ -134,17 +128,17 @@ dropped_event m = dropped_by m.kind
 
 -- "empties messages and observations"
 unfoldable pub empty_queues : KernelState → KernelState
-empty_queues s = with_observed (with_msgs s (msgs_of (emptied msgs_capacity blank_msg (msgs_row s.msgs)))) (observed_of (emptied observed_capacity blank_obs (observed_row s.observed)))
+empty_queues s = with_observed (with_msgs s ((emptied msgs_capacity blank_msg s.msgs))) ((emptied observed_capacity blank_obs s.observed))
 
 -- s with no delivery left, and its counts of messages and observations; the counters are tested in order, the lists empty already
 unfoldable pub close_data : KernelState → Run
 close_data s =
-    let dropped : List VenueMsg = live msgs_capacity (msgs_row s.msgs) in
+    let dropped : List VenueMsg = live msgs_capacity s.msgs in
     let t : KernelState = empty_queues s in
     after (map dropped_event dropped)
-    (on_word (fitting (t.counters.eof_dropped_msgs + s.msgs.count))
+    (on_some (fitting (t.counters.eof_dropped_msgs + s.msgs.count))
     (λ m. let u : KernelState = with_counters t (counters_eof_dropped_msgs t.counters m) in
-    on_word (fitting (u.counters.eof_dropped_obs + s.observed.count))
+    on_some (fitting (u.counters.eof_dropped_obs + s.observed.count))
     (λ n. record {
       outcome = ended dropped;
       state = with_control (with_counters u (counters_eof_dropped_obs u.counters n)) (control_status (control_phase u.control phase.Terminal) status.EndOfData);

@@ -1,13 +1,9 @@
 -- 'Events': the walk over the three queues.
-use Rattle.std.specs.Prelude.{ℕ, suc, ◌+◌, ◌*◌, max, [], ◌∷◌, leb}
-use Rattle.numbers.specs.Choice.{pick}
-use Rattle.numbers.specs.declared.MaybeU64.TheVariants as u64
-use Rattle.lists.specs.Lists.{on_some, below, popped, entry_at, total}
+use Rattle.std.specs.Prelude.{ℕ, suc, ◌+◌, ◌*◌, max, [], ◌∷◌, leb, Some}
+use Rattle.numbers.specs.Choice.{pick, on_some}
+use Rattle.lists.specs.Lists.{below, popped, entry_at, total}
 use Rattle.book.specs.Capacities.{msgs_capacity, deliveries_capacity, observed_capacity}
 use Rattle.book.specs.Entries.{blank_msg, blank_delivery, blank_obs}
-use Rattle.msgs.specs.Rows.{msgs_row}
-use Rattle.deliveries.specs.Rows.{deliveries_row}
-use Rattle.observed.specs.Rows.{observed_row, observed_of}
 use Rattle.state.specs.With.{with_control, with_clock, with_observed, with_agent, control_phase, control_resume, control_status, clock_now_ns, agent_last_obs_row}
 use Rattle.book.specs.declared.MsgKind.{MsgKind}
 use Rattle.book.specs.declared.MsgKind.TheVariants.{Cancel, Activate, Expire}
@@ -31,7 +27,7 @@ paused_at c = control_phase (control_resume c c.phase) phase.AwaitDecision
 abbrev pub pauses : ℕ → KernelState → Run
 pauses row s = record {
   outcome = left;
-  state = with_agent (with_control s (paused_at s.control)) (agent_last_obs_row s.agent (u64.Some row));
+  state = with_agent (with_control s (paused_at s.control)) (agent_last_obs_row s.agent (Some row));
   events = Observed row s.clock.now_ns ∷ [];
 }
 
@@ -46,8 +42,8 @@ truncates s = with_control s (truncated s.control)
 -- "At `s_max` the observation is removed unseen."
 unfoldable pub pop_observation : Config → KernelState → Run
 pop_observation c s =
-    taking (popped observed_capacity blank_obs (observed_row s.observed))
-    (λ e l. let t : KernelState = with_observed s (observed_of l) in
+    taking (popped observed_capacity blank_obs s.observed)
+    (λ e l. let t : KernelState = with_observed s l in
     pick (leb c.s_max s.control.step)
     (record { outcome = left; state = truncates t; events = [] })
     (pauses e.row t))
@@ -71,15 +67,15 @@ due_by limit k t = pick (leb t limit) (next k t) nothing
 
 -- the first entry of each list, if it is due
 unfoldable pub next_msg : ℕ → KernelState → Next
-next_msg limit s = on_some (entry_at msgs_capacity blank_msg 0 (msgs_row s.msgs)) (λ m. due_by limit venue m.eff_ns) nothing
+next_msg limit s = on_some (entry_at msgs_capacity blank_msg 0 s.msgs) (λ m. due_by limit venue m.eff_ns) nothing
 
 -- the same of deliveries
 unfoldable pub next_delivery : ℕ → KernelState → Next
-next_delivery limit s = on_some (entry_at deliveries_capacity blank_delivery 0 (deliveries_row s.deliveries)) (λ d. due_by limit delivery d.at_ns) nothing
+next_delivery limit s = on_some (entry_at deliveries_capacity blank_delivery 0 s.deliveries) (λ d. due_by limit delivery d.at_ns) nothing
 
 -- the same of observations
 unfoldable pub next_observation : ℕ → KernelState → Next
-next_observation limit s = on_some (entry_at observed_capacity blank_obs 0 (observed_row s.observed)) (λ e. due_by limit observation e.ready_ns) nothing
+next_observation limit s = on_some (entry_at observed_capacity blank_obs 0 s.observed) (λ e. due_by limit observation e.ready_ns) nothing
 
 -- the earlier of two, at equal times the first
 unfoldable pub sooner : Next → Next → Next
@@ -123,7 +119,7 @@ extra m = extra_kind m.kind
 
 -- the turns that the walk is given, less one
 unfoldable pub weight : KernelState → ℕ
-weight s = 2 * s.msgs.count + total extra (below (msgs_row s.msgs)) + s.deliveries.count + s.observed.count
+weight s = 2 * s.msgs.count + total extra (below s.msgs) + s.deliveries.count + s.observed.count
 
 -- "The walk is left from inside as soon as an observation pauses it or truncates."
 unfoldable pub run_events : Config → ℕ → KernelState → Run

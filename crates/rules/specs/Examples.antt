@@ -1,8 +1,6 @@
 -- 'Proved examples': the twelve, as one statement over one list. Q7 has two halves.
-use Rattle.std.specs.Prelude.{ℕ, ◌-◌, ◌^◌, false, List, [], ◌∷◌, ◌≡◌, refl}
-use Rattle.numbers.specs.Choice.{pick}
-use Rattle.numbers.specs.Words.{on_word}
-use Rattle.numbers.specs.declared.MaybeU64.TheVariants.{Some}
+use Rattle.std.specs.Prelude.{ℕ, ◌-◌, ◌^◌, false, List, [], ◌∷◌, ◌≡◌, refl, Some}
+use Rattle.numbers.specs.Choice.{pick, on_some}
 use Rattle.book.specs.Entries.{on_side}
 use Rattle.state.specs.Numbers.{halt_number}
 use Rattle.book.specs.declared.OrderState.TheVariants.{Active}
@@ -73,5 +71,5 @@ examples =
     ∷ []
 
 pub examples_hold : All examples
-unfolding All Holds examples queue_fill_lots lots_of ahead matches fills_of draw next_state output pick on_side on_word
+unfolding All Holds examples queue_fill_lots lots_of ahead matches fills_of draw next_state output pick on_side on_some
 examples_hold = (refl, (refl, (refl, (refl, (refl, (refl, (refl, (refl, ((λ c i s. refl), (refl, (refl, (refl, (refl, tt)))))))))))))

@@ -1,14 +1,13 @@
 -- How many events one call can raise, whatever its rows: a claim of our own beside N8. The proof is proofs/HowFar.antt.
 use Rattle.std.specs.Prelude.{ℕ, ◌+◌, ◌-◌, ◌*◌, ◌≤◌, ◌<◌, List, ◌≡◌, length}
 use Rattle.lists.specs.Lists.{below, total}
-use Rattle.msgs.specs.Rows.{msgs_row}
 use Rattle.book.specs.declared.MsgKind.{MsgKind}
 use Rattle.book.specs.declared.MsgKind.TheVariants.{Cancel, Activate, Expire}
 use Rattle.book.specs.declared.VenueMsg.{VenueMsg}
 use Rattle.book.specs.declared.config.Config.{Config}
-use Rattle.msgs.specs.declared.Msgs.{Msgs}
 use Rattle.state.specs.declared.KernelState.{KernelState}
 use Rattle.rules.specs.Calls.{advance}
+use Rattle.msgs.specs.Rows.{Msgs}
 
 -- what a message can raise beyond its report and the delivery of it: an expiry its own event, an activation all that its order's expiry raises
 abbrev pub raisable_kind : MsgKind → ℕ
@@ -22,7 +21,7 @@ raisable m = raisable_kind m.kind
 
 -- the most events that queued messages can raise: 2 a cancel, 3 an expiry, 5 an activation
 abbrev pub msgs_events : Msgs → ℕ
-msgs_events l = 2 * l.count + total raisable (below (msgs_row l))
+msgs_events l = 2 * l.count + total raisable (below l)
 
 -- the same with the deliveries, each of them an event
 abbrev pub queued_events : KernelState → ℕ

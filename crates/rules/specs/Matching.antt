@@ -1,22 +1,16 @@
 -- 'Matching': a row over the booked orders, and the terminal orders that leave after it.
-use Rattle.std.specs.Prelude.{ℕ, zero, suc, ◌+◌, ◌-◌, ◌*◌, ◌/◌, Bool, false, ◌&&◌, ltb, leb, eqb}
-use Rattle.std.proofs.Math.Option.{Option, none}
-use Rattle.numbers.specs.Choice.{pick}
-use Rattle.numbers.specs.Words.{fits, fitting, on_word}
-use Rattle.numbers.specs.Position.{raised_by, lowered_by, on_moved}
-use Rattle.numbers.specs.declared.MaybeU64.{MaybeU64}
-use Rattle.numbers.specs.declared.MaybeU64.TheVariants as u64
-use Rattle.numbers.specs.declared.position.Moved.{Moved}
+use Rattle.std.specs.Prelude.{ℕ, zero, suc, ◌+◌, ◌-◌, ◌*◌, ◌/◌, Bool, false, ◌&&◌, ltb, leb, eqb, Option, Some, None}
+use Rattle.numbers.specs.Choice.{pick, on_some}
+use Rattle.numbers.specs.Words.{fits, fitting}
+use Rattle.numbers.specs.Position.{raised_by, lowered_by}
 use Rattle.numbers.specs.declared.position.Position.{Position}
-use Rattle.lists.specs.Lists.{on_some, entry_at, taken_at, store_at}
+use Rattle.lists.specs.Lists.{entry_at, taken_at, store_at}
 use Rattle.book.specs.Capacities.{orders_capacity}
 use Rattle.book.specs.Entries.{blank_order, on_side, remaining, is_active, is_terminal}
-use Rattle.orders.specs.Rows.{orders_row, orders_of}
 use Rattle.state.specs.With.{with_seqs, with_orders, with_gate, with_counters, seqs_next_exec_id, gate_venue_pos, gate_mark2, counters_venue_fills}
 use Rattle.book.specs.declared.ExecKind.{ExecKind}
 use Rattle.book.specs.declared.ExecKind.TheVariants as exec
 use Rattle.book.specs.declared.FillRec.{FillRec}
-use Rattle.book.specs.declared.MaybeFill.TheVariants as fill
 use Rattle.book.specs.declared.OrderState.TheVariants as order
 use Rattle.book.specs.declared.ReportRec.{ReportRec}
 use Rattle.book.specs.declared.Side.{Side}
@@ -25,7 +19,6 @@ use Rattle.book.specs.declared.config.Config.{Config}
 use Rattle.book.specs.declared.config.FillMode.{FillMode}
 use Rattle.book.specs.declared.config.FillMode.TheVariants.{Immediate, QueuePosition}
 use Rattle.book.specs.declared.config.KernelTick.{KernelTick}
-use Rattle.orders.specs.declared.Orders.{Orders}
 use Rattle.state.specs.declared.GateState.{GateState}
 use Rattle.state.specs.declared.HaltReason.TheVariants.{LedgerOverflow, CounterOverflow}
 use Rattle.state.specs.declared.KernelEvent.TheVariants.{Fill}
@@ -33,6 +26,7 @@ use Rattle.state.specs.declared.KernelState.{KernelState}
 use Rattle.rules.specs.Run.{Run, ran_to, halt_at, raised, and_then, taking}
 use Rattle.rules.specs.Report.{stamp, queue_delivery, report_on}
 use Rattle.rules.specs.Messages.{released, remove_expiry, await_marked}
+use Rattle.orders.specs.Rows.{Orders}
 
 -- ---- which orders match
 -- "matches if ask ≤ price (Buy) or bid ≥ price (Sell)"
@@ -58,26 +52,26 @@ lots_of cumulative o = pick (eqb cumulative 0) 0 (pick (leb o.qty cumulative) (r
 
 -- "ms = floor((row time − active_after) / 1,000,000); below `min_queue_ms`, 0"; "`per_ms` 0", after the minimum, is the halt 7, here none;
 -- "Cumulative = floor(`rate_lots` × ms / `per_ms`) − ahead, exact past 64 bits", and a cumulative below 0 is as one of 0
-unfoldable pub queue_fill_lots : ℕ → ℕ → ℕ → KernelTick → VenueOrder → MaybeU64
+unfoldable pub queue_fill_lots : ℕ → ℕ → ℕ → KernelTick → VenueOrder → Option ℕ
 queue_fill_lots rate per least row o =
     let ms : ℕ = (row.ts_ns - o.active_after_ns) / 1000000 in
-    pick (ltb ms least) (u64.Some 0)
-    (pick (eqb per 0) u64.None
-    (u64.Some (lots_of (rate * ms / per - ahead row o) o)))
+    pick (ltb ms least) (Some 0)
+    (pick (eqb per 0) None
+    (Some (lots_of (rate * ms / per - ahead row o) o)))
 
 -- "Immediate gives all remaining."
-abbrev pub fill_lots : FillMode → KernelTick → VenueOrder → MaybeU64
-fill_lots Immediate row o = u64.Some (remaining o)
+abbrev pub fill_lots : FillMode → KernelTick → VenueOrder → Option ℕ
+fill_lots Immediate row o = Some (remaining o)
 fill_lots (QueuePosition rate per least) row o = queue_fill_lots rate per least row o
 
 -- ---- a fill of n lots of the order o at place i: s is the state at its stamp
 -- a buy adds to a position, a sell takes away
-abbrev pub moved : Side → Position → ℕ → Moved
+abbrev pub moved : Side → Position → ℕ → Option Position
 moved d p n = on_side d (raised_by p n) (lowered_by p n)
 
 -- the gate after the fill: none where "lots above live; fill above 2^63 − 1; position out of range"
 unfoldable pub gate_filled : Side → ℕ → GateState → Option GateState
-gate_filled d n g = on_moved (moved d g.venue_pos n) (λ p. released d n (gate_venue_pos g p)) none
+gate_filled d n g = on_some (moved d g.venue_pos n) (λ p. released d n (gate_venue_pos g p)) None
 
 -- an order is Filled where nothing remains
 unfoldable pub filled_by : ℕ → VenueOrder → VenueOrder
@@ -111,7 +105,7 @@ fill_report s o n = report_on s (filled_by n o) (fill_kind n o) o.cancel_infligh
 -- ".. `venue_fills`, fill event ..": u has the gate and the exec id written
 unfoldable pub fill_counted : VenueOrder → ℕ → KernelState → KernelState → Run
 fill_counted o n s u =
-    on_word (fitting (u.counters.venue_fills + 1))
+    on_some (fitting (u.counters.venue_fills + 1))
     (λ k. raised (Fill (fill_record s o n)) (with_counters u (counters_venue_fills u.counters k)))
     (halt_at CounterOverflow u)
 
@@ -121,7 +115,7 @@ fill_event o n s =
     and_then (stamp s) λ t.
     on_some (gate_filled o.side n t.gate)
     (λ g. pick (fits (o.price * 2))
-    (on_word (fitting (t.seqs.next_exec_id + 1))
+    (on_some (fitting (t.seqs.next_exec_id + 1))
     (λ e. fill_counted o n s (with_seqs (with_gate t g) (seqs_next_exec_id t.seqs e)))
     (halt_at CounterOverflow t))
     (halt_at LedgerOverflow t))
@@ -131,7 +125,7 @@ fill_event o n s =
 unfoldable pub fill_at : Config → ℕ → VenueOrder → ℕ → KernelState → Run
 fill_at c i o n s =
     and_then (fill_event o n s) λ t.
-    queue_delivery c (fill_report s o n) (fill.Some (fill_record s o n)) (with_orders t (orders_of (store_at orders_capacity i (filled_by n o) (orders_row t.orders)).list))
+    queue_delivery c (fill_report s o n) (Some (fill_record s o n)) (with_orders t (store_at orders_capacity i (filled_by n o) t.orders).list)
 
 -- ---- the pass over the orders
 -- what a row fills at a place: nothing, so many lots of the order there, or the queue rule fails
@@ -144,12 +138,12 @@ pub data Fills : Type 0 where
 unfoldable pub fills_of : FillMode → KernelTick → VenueOrder → Fills
 fills_of mode row o =
     pick (matches row o)
-    (on_word (fill_lots mode row o) (λ n. pick (eqb n 0) no_fill (fills o n)) fails)
+    (on_some (fill_lots mode row o) (λ n. pick (eqb n 0) no_fill (fills o n)) fails)
     no_fill
 
 -- no order at the place: nothing
 unfoldable pub fills_at : FillMode → KernelTick → ℕ → Orders → Fills
-fills_at mode row i os = on_some (entry_at orders_capacity blank_order i (orders_row os)) (fills_of mode row) no_fill
+fills_at mode row i os = on_some (entry_at orders_capacity blank_order i os) (fills_of mode row) no_fill
 
 -- "queue rule, after the minimum: `per_ms` 0: 7"
 abbrev pub filling : Config → ℕ → KernelState → Fills → Run
@@ -169,13 +163,13 @@ match_from c row (suc k) i s = and_then (match_at c row i s) (match_from c row k
 -- ---- "Terminal orders (Filled, Canceled, Rejected) leave after the last one, with their expiry, to awaiting if marked."
 unfoldable pub leave : ℕ → KernelState → Run
 leave i s =
-    taking (taken_at orders_capacity blank_order i (orders_row s.orders))
-    (λ o l. await_marked o (remove_expiry o.id (with_orders s (orders_of l))))
+    taking (taken_at orders_capacity blank_order i s.orders)
+    (λ o l. await_marked o (remove_expiry o.id (with_orders s l)))
     (ran_to s)
 
 -- whether a terminal order stands at place i
 unfoldable pub terminal_at : ℕ → KernelState → Bool
-terminal_at i s = on_some (entry_at orders_capacity blank_order i (orders_row s.orders)) (λ o. is_terminal o.state) false
+terminal_at i s = on_some (entry_at orders_capacity blank_order i s.orders) (λ o. is_terminal o.state) false
 
 -- k looks from place i on: where one left, the next stands at the same place
 unfoldable pub sweep_from : ℕ → ℕ → KernelState → Run
@@ -190,11 +184,11 @@ sweep s = sweep_from s.orders.count 0 s
 
 -- "`mark2` becomes bid + ask if above 0."
 unfoldable pub gate_marked : ℕ → GateState → GateState
-gate_marked mid2 g = pick (eqb mid2 0) g (gate_mark2 g (u64.Some mid2))
+gate_marked mid2 g = pick (eqb mid2 0) g (gate_mark2 g (Some mid2))
 
 -- "match, row end: bid + ask past 64 bits: 5"
 unfoldable pub match_row : Config → KernelTick → KernelState → Run
 match_row c row s =
-    on_word (fitting (row.bid + row.ask))
+    on_some (fitting (row.bid + row.ask))
     (λ mid2. and_then (match_from c row s.orders.count 0 (with_gate s (gate_marked mid2 s.gate))) sweep)
     (halt_at LedgerOverflow s)

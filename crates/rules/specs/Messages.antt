@@ -1,18 +1,12 @@
 -- 'Messages': the gate's release, and what an activation, a cancel and an expiry do.
-use Rattle.std.specs.Prelude.{ℕ, ◌+◌, ◌-◌, Bool, false, ◌&&◌, ltb}
-use Rattle.std.proofs.Math.Option.{Option, none, some}
-use Rattle.numbers.specs.Choice.{pick}
-use Rattle.numbers.specs.Words.{fits, fitting, on_word}
-use Rattle.numbers.specs.declared.MaybeU64.{MaybeU64}
-use Rattle.numbers.specs.declared.MaybeU64.TheVariants as u64
-use Rattle.lists.specs.Lists.{on_some, live, found_in, pushed, put_before, taken_at, popped}
+use Rattle.std.specs.Prelude.{ℕ, ◌+◌, ◌-◌, Bool, false, ◌&&◌, ltb, Option, Some, None}
+use Rattle.numbers.specs.Choice.{pick, on_some}
+use Rattle.numbers.specs.Words.{fits, fitting}
+use Rattle.lists.specs.Lists.{live, found_in, pushed, put_before, taken_at, popped}
 use Rattle.book.specs.Capacities.{orders_capacity, msgs_capacity}
 use Rattle.book.specs.Entries.{blank_order, blank_msg, on_side, remaining, in_state, is_open, has_id, id_above, is_later, is_activation, is_expiry}
-use Rattle.orders.specs.Rows.{orders_row, orders_of}
-use Rattle.msgs.specs.Rows.{msgs_row, msgs_of}
 use Rattle.state.specs.With.{with_seqs, with_orders, with_msgs, with_awaiting, with_gate, seqs_next_msg_seq, gate_live_buy_lots, gate_live_sell_lots}
 use Rattle.book.specs.declared.ExecKind.TheVariants as exec
-use Rattle.book.specs.declared.MaybeFill.TheVariants as fill
 use Rattle.book.specs.declared.MsgKind.{MsgKind}
 use Rattle.book.specs.declared.MsgKind.TheVariants.{Cancel, Activate, Expire}
 use Rattle.book.specs.declared.OrderState.TheVariants as order
@@ -33,8 +27,8 @@ live_lots d g = on_side d g.live_buy_lots g.live_sell_lots
 -- n lots of a side are live no more: none where they are "lots above live"
 unfoldable pub released : Side → ℕ → GateState → Option GateState
 released d n g =
-    pick (ltb (live_lots d g) n) none
-    (some (on_side d (gate_live_buy_lots g (g.live_buy_lots - n)) (gate_live_sell_lots g (g.live_sell_lots - n))))
+    pick (ltb (live_lots d g) n) None
+    (Some (on_side d (gate_live_buy_lots g (g.live_buy_lots - n)) (gate_live_sell_lots g (g.live_sell_lots - n))))
 
 -- "Remaining lots .. are what is released"; "release: lots above live: 7"
 unfoldable pub release : VenueOrder → KernelState → Run
@@ -46,7 +40,7 @@ release o s =
 -- ---- the lists of orders and messages
 -- "Awaiting is ordered by id, an equal id after"
 unfoldable pub await : VenueOrder → KernelState → Run
-await o s = putting (put_before orders_capacity (id_above o.id) o (orders_row s.awaiting)) (λ l. with_awaiting s (orders_of l)) s
+await o s = putting (put_before orders_capacity (id_above o.id) o s.awaiting) (with_awaiting s) s
 
 -- "to awaiting if a cancel is in flight (marked)"
 unfoldable pub await_marked : VenueOrder → KernelState → Run
@@ -54,22 +48,22 @@ await_marked o s = pick o.cancel_inflight (await o s) (ran_to s)
 
 -- booked: last among the orders
 unfoldable pub book : VenueOrder → KernelState → Run
-book o s = putting (pushed orders_capacity o (orders_row s.orders)) (λ l. with_orders s (orders_of l)) s
+book o s = putting (pushed orders_capacity o s.orders) (with_orders s) s
 
 -- "a new one takes `next_msg_seq`, which rises, and goes before the first with a greater pair, else last"
 unfoldable pub schedule : ℕ → MsgKind → KernelState → Run
 schedule at k s =
     let seq : ℕ = s.seqs.next_msg_seq in
-    on_word (fitting (seq + 1))
+    on_some (fitting (seq + 1))
     (λ n. let t : KernelState = with_seqs s (seqs_next_msg_seq s.seqs n) in
-    putting (put_before msgs_capacity (is_later at seq) (record { eff_ns = at; seq = seq; kind = k }) (msgs_row t.msgs)) (λ l. with_msgs t (msgs_of l)) t)
+    putting (put_before msgs_capacity (is_later at seq) (record { eff_ns = at; seq = seq; kind = k }) t.msgs) (with_msgs t) t)
     (halt_at CounterOverflow s)
 
 -- without the first expiry of that order
 unfoldable pub remove_expiry : ℕ → KernelState → KernelState
 remove_expiry id s =
-    on_some (found_in (is_expiry id) (live msgs_capacity (msgs_row s.msgs)))
-    (λ i. with_msgs s (msgs_of (taken_at msgs_capacity blank_msg i (msgs_row s.msgs)).list))
+    on_some (found_in (is_expiry id) (live msgs_capacity s.msgs))
+    (λ i. with_msgs s (taken_at msgs_capacity blank_msg i s.msgs).list)
     s
 
 -- ---- "Activate": s is the state at its stamp, t after it
@@ -78,24 +72,24 @@ abbrev pub valid : VenueOrder → Bool
 valid o = ltb 0 o.price && ltb 0 o.qty
 
 -- with a life "its expiry queued at `active_after_ns` + life"
-unfoldable pub schedule_expiry : MaybeU64 → ℕ → KernelState → Run
-schedule_expiry expiry id s = on_word expiry (λ at. schedule at (Expire id) s) (ran_to s)
+unfoldable pub schedule_expiry : Option ℕ → ℕ → KernelState → Run
+schedule_expiry expiry id s = on_some expiry (λ at. schedule at (Expire id) s) (ran_to s)
 
 -- "Valid: Active, Accepted report, booked, then .. its expiry"
-unfoldable pub accept : Config → VenueOrder → MaybeU64 → KernelState → KernelState → Run
+unfoldable pub accept : Config → VenueOrder → Option ℕ → KernelState → KernelState → Run
 accept c o expiry s t =
-    and_then (queue_delivery c (report_on s o exec.Accepted false 0) fill.None t) λ u.
+    and_then (queue_delivery c (report_on s o exec.Accepted false 0) None t) λ u.
     and_then (book o u) (schedule_expiry expiry o.id)
 
 -- "Invalid: lots released, Rejected report, and to awaiting if .. marked"
 unfoldable pub reject : Config → VenueOrder → KernelState → KernelState → Run
 reject c o s t =
     and_then (release o t) λ u.
-    and_then (queue_delivery c (report_on s o exec.Rejected o.cancel_inflight 0) fill.None u)
+    and_then (queue_delivery c (report_on s o exec.Rejected o.cancel_inflight 0) None u)
     (await_marked o)
 
 -- "Stamped."
-unfoldable pub activate : Config → VenueOrder → MaybeU64 → KernelState → Run
+unfoldable pub activate : Config → VenueOrder → Option ℕ → KernelState → Run
 activate c o expiry s =
     and_then (stamp s) λ t.
     pick (valid o) (accept c (in_state o order.Active) expiry s t) (reject c (in_state o order.Rejected) s t)
@@ -105,18 +99,18 @@ activate c o expiry s =
 unfoldable pub activation : Config → VenueOrder → ℕ → KernelState → KernelState → Run
 activation c o life s t =
     pick (valid o && ltb 0 life)
-    (on_word (fitting (o.active_after_ns + life))
-    (λ at. pick (fits (s.seqs.next_msg_seq + 1)) (activate c o (u64.Some at) t) (halt_at CounterOverflow s))
+    (on_some (fitting (o.active_after_ns + life))
+    (λ at. pick (fits (s.seqs.next_msg_seq + 1)) (activate c o (Some at) t) (halt_at CounterOverflow s))
     (halt_at TimeOverflow s))
-    (activate c o u64.None t)
+    (activate c o None t)
 
 -- ---- "Cancel": "stamped always"; s is the state at its stamp, t after it
 -- "Booked, non-terminal: removed, released, its expiry removed, Canceled."
 unfoldable pub cancel_booked : Config → KernelState → ℕ → KernelState → Run
 cancel_booked c s i t =
-    taking (taken_at orders_capacity blank_order i (orders_row t.orders))
-    (λ o l. and_then (release o (with_orders t (orders_of l))) λ u.
-    queue_delivery c (report_on s o exec.Canceled false 0) fill.None (remove_expiry o.id u))
+    taking (taken_at orders_capacity blank_order i t.orders)
+    (λ o l. and_then (release o (with_orders t l)) λ u.
+    queue_delivery c (report_on s o exec.Canceled false 0) None (remove_expiry o.id u))
     (ran_to t)
 
 -- k of the order that an activation carries
@@ -128,43 +122,43 @@ on_activation (Expire i) k z = z
 -- "Else a pending activation: the same without expiry."
 unfoldable pub cancel_activation : Config → KernelState → ℕ → KernelState → Run
 cancel_activation c s i t =
-    taking (taken_at msgs_capacity blank_msg i (msgs_row t.msgs))
-    (λ m l. let u : KernelState = with_msgs t (msgs_of l) in
+    taking (taken_at msgs_capacity blank_msg i t.msgs)
+    (λ m l. let u : KernelState = with_msgs t l in
     on_activation m.kind
-    (λ o. and_then (release o u) (queue_delivery c (report_on s o exec.Canceled false 0) fill.None))
+    (λ o. and_then (release o u) (queue_delivery c (report_on s o exec.Canceled false 0) None))
     (ran_to u))
     (ran_to t)
 
 -- "Else awaiting: removed, CancelRejected."
 unfoldable pub cancel_awaiting : Config → KernelState → ℕ → KernelState → Run
 cancel_awaiting c s i t =
-    taking (taken_at orders_capacity blank_order i (orders_row t.awaiting))
-    (λ o l. queue_delivery c (report_on s o exec.CancelRejected false 0) fill.None (with_awaiting t (orders_of l)))
+    taking (taken_at orders_capacity blank_order i t.awaiting)
+    (λ o l. queue_delivery c (report_on s o exec.CancelRejected false 0) None (with_awaiting t l))
     (ran_to t)
 
 -- "Cancel, stamped always": booked, else pending, else awaiting; else nothing more
 unfoldable pub cancel : Config → ℕ → KernelState → Run
 cancel c id s =
     and_then (stamp s) λ t.
-    on_some (found_in (is_open id) (live orders_capacity (orders_row t.orders))) (λ i. cancel_booked c s i t)
-    (on_some (found_in (is_activation id) (live msgs_capacity (msgs_row t.msgs))) (λ i. cancel_activation c s i t)
-    (on_some (found_in (has_id id) (live orders_capacity (orders_row t.awaiting))) (λ i. cancel_awaiting c s i t)
+    on_some (found_in (is_open id) (live orders_capacity t.orders)) (λ i. cancel_booked c s i t)
+    (on_some (found_in (is_activation id) (live msgs_capacity t.msgs)) (λ i. cancel_activation c s i t)
+    (on_some (found_in (has_id id) (live orders_capacity t.awaiting)) (λ i. cancel_awaiting c s i t)
     (ran_to t)))
 
 -- ---- "Expire": "else stamped, removed, released, expired event, Canceled report, awaiting if marked"; s is the state at its stamp, t after it
 unfoldable pub expire_booked : Config → KernelState → ℕ → KernelState → Run
 expire_booked c s i t =
-    taking (taken_at orders_capacity blank_order i (orders_row t.orders))
-    (λ o l. and_then (release o (with_orders t (orders_of l))) λ u.
+    taking (taken_at orders_capacity blank_order i t.orders)
+    (λ o l. and_then (release o (with_orders t l)) λ u.
     and_then (raised (Expired o.id u.clock.now_ns) u) λ v.
-    and_then (queue_delivery c (report_on s o exec.Canceled o.cancel_inflight 0) fill.None v)
+    and_then (queue_delivery c (report_on s o exec.Canceled o.cancel_inflight 0) None v)
     (await_marked (in_state o order.Canceled)))
     (ran_to t)
 
 -- "nothing if not booked and non-terminal"
 unfoldable pub expire : Config → ℕ → KernelState → Run
 expire c id s =
-    on_some (found_in (is_open id) (live orders_capacity (orders_row s.orders)))
+    on_some (found_in (is_open id) (live orders_capacity s.orders))
     (λ i. and_then (stamp s) (expire_booked c s i))
     (ran_to s)
 
@@ -177,6 +171,6 @@ acts c (Expire id) s t = expire c id t
 -- "A list with no first entry ends that step with nothing done."
 unfoldable pub apply_next_msg : Config → KernelState → Run
 apply_next_msg c s =
-    taking (popped msgs_capacity blank_msg (msgs_row s.msgs))
-    (λ m l. acts c m.kind s (with_msgs s (msgs_of l)))
+    taking (popped msgs_capacity blank_msg s.msgs)
+    (λ m l. acts c m.kind s (with_msgs s l))
     (ran_to s)

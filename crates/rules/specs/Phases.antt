@@ -1,12 +1,9 @@
 -- 'Phases'.
-use Rattle.std.specs.Prelude.{ℕ, suc, ◌+◌, ◌-◌, ◌*◌, ◌/◌, max, List, ltb, leb, get_or, length}
-use Rattle.std.proofs.Math.Option.{Option, none, some}
-use Rattle.numbers.specs.Choice.{pick}
-use Rattle.numbers.specs.Words.{fits, on_word}
-use Rattle.numbers.specs.declared.MaybeU64.TheVariants as u64
-use Rattle.lists.specs.Lists.{on_some, pushed}
+use Rattle.std.specs.Prelude.{ℕ, suc, ◌+◌, ◌-◌, ◌*◌, ◌/◌, max, List, ltb, leb, get_or, length, Option, Some, None}
+use Rattle.numbers.specs.Choice.{pick, on_some}
+use Rattle.numbers.specs.Words.{fits}
+use Rattle.lists.specs.Lists.{pushed}
 use Rattle.book.specs.Capacities.{observed_capacity}
-use Rattle.observed.specs.Rows.{observed_row, observed_of}
 use Rattle.state.specs.With.{with_control, with_clock, with_observed, control_phase, control_cursor, control_cur_row, clock_last_observed_ns}
 use Rattle.book.specs.declared.config.Config.{Config}
 use Rattle.book.specs.declared.config.KernelTick.{KernelTick}
@@ -26,8 +23,8 @@ use Rattle.rules.specs.Events.{clock_to, truncates, run_events}
 unfoldable pub row_at : List ℕ → ℕ → Option KernelTick
 row_at rows i =
     pick (ltb i (length rows / 5))
-    (some (record { ts_ns = get_or rows (5 * i) 0; bid = get_or rows (5 * i + 1) 0; bid_lots = get_or rows (5 * i + 2) 0; ask = get_or rows (5 * i + 3) 0; ask_lots = get_or rows (5 * i + 4) 0 }))
-    none
+    (Some (record { ts_ns = get_or rows (5 * i) 0; bid = get_or rows (5 * i + 1) 0; bid_lots = get_or rows (5 * i + 2) 0; ask = get_or rows (5 * i + 3) 0; ask_lots = get_or rows (5 * i + 4) 0 }))
+    None
 
 -- "queue the observation (row time plus the delay from `observation_q`, never below `last_observed_ns`, which takes it before the push), go to ObsQueued"
 unfoldable pub queue_observation : Config → ℕ → KernelTick → KernelState → Run
@@ -35,8 +32,8 @@ queue_observation c i row s =
     delayed c row.ts_ns c.observation_q s λ at t.
     let ready : ℕ = max at t.clock.last_observed_ns in
     let u : KernelState = with_clock t (clock_last_observed_ns t.clock ready) in
-    putting (pushed observed_capacity (record { ready_ns = ready; row = i }) (observed_row u.observed))
-    (λ l. with_control (with_observed u (observed_of l)) (control_phase u.control ObsQueued))
+    putting (pushed observed_capacity (record { ready_ns = ready; row = i }) u.observed)
+    (λ l. with_control (with_observed u l) (control_phase u.control ObsQueued))
     u
 
 -- "BeforeMatch: run events up to the row's time, raise `now_ns` to it, match, queue the observation"
@@ -49,7 +46,7 @@ match_phase c i row s =
 -- "phase: `cur_row` no row, or none in BeforeMatch: 7"
 unfoldable pub before_match : Config → List ℕ → KernelState → Run
 before_match c rows s =
-    on_word s.control.cur_row
+    on_some s.control.cur_row
     (λ i. on_some (row_at rows i) (λ row. match_phase c i row s) (halt_at CounterOverflow s))
     (halt_at CounterOverflow s)
 
@@ -62,13 +59,13 @@ settle_row c i row s =
 -- "ObsQueued: if `cur_row` is set, .."
 unfoldable pub settle : Config → List ℕ → KernelState → Run
 settle c rows s =
-    on_word s.control.cur_row
+    on_some s.control.cur_row
     (λ i. on_some (row_at rows i) (λ row. settle_row c i row s) (halt_at CounterOverflow s))
     (ran_to s)
 
 -- "Otherwise `cur_row` becomes the cursor, the cursor rises, BeforeMatch."
 abbrev pub to_row : Control → ℕ → Control
-to_row c n = control_phase (control_cursor (control_cur_row c (u64.Some c.cursor)) n) BeforeMatch
+to_row c n = control_phase (control_cursor (control_cur_row c (Some c.cursor)) n) BeforeMatch
 
 -- the same of a state: the row at its cursor
 abbrev pub to_next_row : KernelState → KernelState

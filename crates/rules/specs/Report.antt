@@ -1,15 +1,12 @@
 -- 'Report': stamps, delays, and a report with its delivery.
-use Rattle.std.specs.Prelude.{ℕ, ◌+◌, ◌*◌, max, Bool}
-use Rattle.numbers.specs.Words.{fitting, on_word}
-use Rattle.numbers.specs.declared.MaybeU64.{MaybeU64}
-use Rattle.numbers.specs.declared.MaybeU64.TheVariants.{None}
+use Rattle.numbers.specs.Choice.{on_some}
+use Rattle.std.specs.Prelude.{ℕ, ◌+◌, ◌*◌, max, Bool, Option, None}
+use Rattle.numbers.specs.Words.{fitting}
 use Rattle.lists.specs.Lists.{pushed}
 use Rattle.book.specs.Capacities.{deliveries_capacity}
-use Rattle.deliveries.specs.Rows.{deliveries_row, deliveries_of}
 use Rattle.state.specs.With.{with_seqs, with_clock, with_rng_latency, with_deliveries, seqs_stamp_seq, clock_last_delivery_ns}
 use Rattle.book.specs.declared.Delivery.{Delivery}
 use Rattle.book.specs.declared.ExecKind.{ExecKind}
-use Rattle.book.specs.declared.MaybeFill.{MaybeFill}
 use Rattle.book.specs.declared.Origin.TheVariants.{Venue}
 use Rattle.book.specs.declared.ReportRec.{ReportRec}
 use Rattle.book.specs.declared.VenueOrder.{VenueOrder}
@@ -19,25 +16,26 @@ use Rattle.state.specs.declared.KernelEvent.TheVariants.{Report}
 use Rattle.state.specs.declared.KernelState.{KernelState}
 use Rattle.rules.specs.Run.{Run, ran_to, halt_at, raised, and_then, putting}
 use Rattle.rules.specs.Generator.{Draw, draw}
+use Rattle.book.specs.declared.FillRec.{FillRec}
 
 -- "A stamp is `now_ns` and `stamp_seq`, which then rises." The stamp is read off the state before this. "`stamp_seq` at maximum: 7"
 unfoldable pub stamp : KernelState → Run
 stamp s =
-    on_word (fitting (s.seqs.stamp_seq + 1))
+    on_some (fitting (s.seqs.stamp_seq + 1))
     (λ n. ran_to (with_seqs s (seqs_stamp_seq s.seqs n)))
     (halt_at CounterOverflow s)
 
 -- "Delay is (base + jitter) times `quantum_ns`", after a time: none where "sum, product or time past 64 bits"
-unfoldable pub delayed_time : ℕ → ℕ → ℕ → ℕ → MaybeU64
+unfoldable pub delayed_time : ℕ → ℕ → ℕ → ℕ → Option ℕ
 delayed_time from base jitter quantum =
-    on_word (fitting (base + jitter))
-    (λ quanta. on_word (fitting (quanta * quantum)) (λ ns. fitting (from + ns)) None)
+    on_some (fitting (base + jitter))
+    (λ quanta. on_some (fitting (quanta * quantum)) (λ ns. fitting (from + ns)) None)
     None
 
 -- a delay's jitter is drawn first: the generator with the time
 pub record Delay : Type 0 where
   pub rng : ℕ
-  pub time : MaybeU64
+  pub time : Option ℕ
 
 -- by the configuration's jitter and quantum
 unfoldable pub delay : Config → ℕ → ℕ → ℕ → Delay
@@ -50,11 +48,11 @@ unfoldable pub delayed : Config → ℕ → ℕ → KernelState → (ℕ → Ker
 delayed c from base s k =
     let d : Delay = delay c s.rng_latency from base in
     let t : KernelState = with_rng_latency s d.rng in
-    on_word d.time (λ at. k at t) (halt_at TimeOverflow t)
+    on_some d.time (λ at. k at t) (halt_at TimeOverflow t)
 
 -- a delivery goes behind the others
 unfoldable pub push_delivery : Delivery → KernelState → Run
-push_delivery d s = putting (pushed deliveries_capacity d (deliveries_row s.deliveries)) (λ l. with_deliveries s (deliveries_of l)) s
+push_delivery d s = putting (pushed deliveries_capacity d s.deliveries) (with_deliveries s) s
 
 -- "Delivery time is its ts plus the delay from `ack_q`, never below `last_delivery_ns`, which takes it. The report event precedes the push."
 unfoldable pub reported : Config → ReportRec → KernelState → Run
@@ -63,7 +61,7 @@ reported c r s =
     raised (Report r) (with_clock t (clock_last_delivery_ns t.clock (max at t.clock.last_delivery_ns)))
 
 -- "A delivery holds its time, the report and, for a match only, the fill's record."
-unfoldable pub queue_delivery : Config → ReportRec → MaybeFill → KernelState → Run
+unfoldable pub queue_delivery : Config → ReportRec → Option FillRec → KernelState → Run
 queue_delivery c r f s =
     and_then (reported c r s) λ t.
     push_delivery (record { at_ns = t.clock.last_delivery_ns; report = r; fill = f }) t

@@ -1,6 +1,5 @@
 -- Which rows a call can read: a claim of our own beside N8. The proof is proofs/RowsRead.antt.
-use Rattle.std.specs.Prelude.{ℕ, ◌+◌, ◌-◌, ◌%◌, ◌≤◌, ◌<◌, List, ◌≡◌, length}
-use Rattle.numbers.specs.declared.MaybeU64.TheVariants.{Some}
+use Rattle.std.specs.Prelude.{ℕ, ◌+◌, ◌-◌, ◌%◌, ◌≤◌, ◌<◌, List, ◌≡◌, length, Some}
 use Rattle.book.specs.declared.config.Config.{Config}
 use Rattle.state.specs.declared.KernelState.{KernelState}
 use Rattle.rules.specs.Calls.{advance}

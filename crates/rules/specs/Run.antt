@@ -1,12 +1,13 @@
 -- What a step of a call gives: how it went, the state, and the events that it raised, in their order. A step that did not run to its end ends what follows it.
 use Rattle.std.specs.Prelude.{ℕ, zero, suc, List, [], ◌∷◌, ◌++◌}
-use Rattle.numbers.specs.Choice.{pick}
-use Rattle.lists.specs.Lists.{Row, Put, Taken, on_some}
+use Rattle.numbers.specs.Choice.{pick, on_some}
+use Rattle.lists.specs.Lists.{Put, Taken}
 use Rattle.book.specs.declared.VenueMsg.{VenueMsg}
 use Rattle.state.specs.declared.HaltReason.{HaltReason}
 use Rattle.state.specs.declared.HaltReason.TheVariants.{CounterOverflow}
 use Rattle.state.specs.declared.KernelEvent.{KernelEvent}
 use Rattle.state.specs.declared.KernelState.{KernelState}
+use Rattle.lists.specs.declared.Arr.{Arr}
 
 -- how a step went
 pub data Outcome : Type 0 where
@@ -52,11 +53,11 @@ unfoldable pub and_then : Run → (KernelState → Run) → Run
 and_then r k = on_ran r.outcome r (after r.events (k r.state))
 
 -- an entry that goes into a list of the state, which k puts back; "list: full" halts 7
-unfoldable pub putting : {A : Type 0} → Put A → (Row A → KernelState) → KernelState → Run
+unfoldable pub putting : {A : Type 0} {size : ℕ} → Put A size → (Arr A size → KernelState) → KernelState → Run
 putting p k s = pick p.ok (ran_to (k p.list)) (halt_at CounterOverflow s)
 
 -- k of the entry that came out of a list, and of the rest; z where none came out
-unfoldable pub taking : {A : Type 0} → Taken A → (A → Row A → Run) → Run → Run
+unfoldable pub taking : {A : Type 0} {size : ℕ} → Taken A size → (A → Arr A size → Run) → Run → Run
 taking t k z = on_some t.got (λ x. k x t.list) z
 
 -- a turn of a loop: the loop goes on from where the turn's run leaves, or this run is the last

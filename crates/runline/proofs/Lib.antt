@@ -1,2 +1,3 @@
+pub mod Words
 pub mod NumbersLaws
 pub mod LineLaws

@@ -1,167 +1,114 @@
--- Each kind of line by the numbers that were read of it, from the field behind its first. Assumes nothing.
-use Prim.Native.Nat.{ℕ, suc, ◌<◌}
-use mathlib.Core.Path.{◌≡◌, refl, sym, ap, ◌∙◌}
+-- Each kind of line by the numbers that were read of it. Assumes nothing.
+use Rattle.std.specs.Prelude.{Option, Some, None, slice_get}
+use Rattle.std.specs.Option.{option_map}
+use Prim.Native.Nat.{ℕ, zero, suc}
+use mathlib.Core.Path.{◌≡◌, refl, ap, ◌∙◌}
 use mathlib.Core.Bool.{Bool, true, false}
 use mathlib.Core.List.{List, [], ◌∷◌}
+use native.Mathlib.Numerals.{add-one}
+use native.Mathlib.Nat.{add-zero}
 use native.Mathlib.Omega.{arith}
 use lib.Dec.{eqb}
-use lib.ListN.{length, get_or, drop, replicate}
+use lib.ListN.{length, get_or, drop, length-drop}
 use lib.Seq.{drop-drop, get_or-drop}
-use borrow.Author.Tests.{ne_eqb}
-use Rattle.numbers.specs.Choice.{pick}
+use Rattle.std.proofs.lemmas.Bool.Decides.{nat_tests}
+use Rattle.numbers.specs.Choice.{pick, on_some}
 use Rattle.book.specs.declared.OrderState.TheVariants.{Submitted}
 use Rattle.book.specs.declared.Side.{Side}
 use Rattle.book.specs.declared.config.FillMode.TheVariants.{Immediate, QueuePosition}
-use Rattle.text.specs.Bytes.{bytes}
-use Rattle.text.specs.Cursor.{fields_from}
-use Rattle.text.specs.Fields.{fields, same}
-use Rattle.text.proofs.CursorLaws.{left-parts, left-next}
-use Rattle.text.proofs.PartedLaws.{same_longer}
-use Rattle.runline.specs.Lines.{side_of, on_side_field, config_line, now_line, queue_line, fill_mode_line, order_line, cancel_line, row_line, line_of}
-use Rattle.runline.specs.Numbers.{Front, numbers_in, only_numbers}
+use Rattle.text.specs.Fields.{number}
+use Rattle.text.proofs.CursorLaws.{first_some, first_none}
+use Rattle.runline.specs.Lines.{number_at, side_of, config_line, queue_line, order_line, cancel_line, row_line}
+use Rattle.runline.specs.Numbers.{numbers, only_numbers}
 use Rattle.runline.specs.declared.Line.{Line}
-use Rattle.runline.specs.declared.Line.TheVariants.{Bad, Config, Fill, Order, Cancel, Row}
-use Rattle.runline.specs.declared.MaybeSide.{MaybeSide}
-use Rattle.runline.specs.declared.MaybeSide.TheVariants as side
-use Rattle.runline.proofs.NumbersLaws.{either-bad, reads, reads-front, ended, only_line}
+use Rattle.runline.specs.declared.Line.TheVariants.{Config, Fill, Order, Cancel, Row}
 
--- ---- numbers alone
-abbrev config_of : List ℕ → Line
-config_of w = Config (record { quantum_ns = get_or w 0 0; observation_q = get_or w 1 0; ack_q = get_or w 2 0; jitter_q = get_or w 3 0; s_max = get_or w 5 0; fill = Immediate }) (get_or w 4 0)
+-- k of n numbers from place i on
+abbrev reads : ℕ → ℕ → List (List ℕ) → (List ℕ → Option Line) → Option Line
+reads zero i fs k = k []
+reads (suc n) i fs k = number_at fs i (λ x. reads n (suc i) fs (λ w. k (x ∷ w)))
 
-abbrev queue_of : List ℕ → Line
-queue_of w = Fill (QueuePosition (get_or w 0 0) (get_or w 1 0) (get_or w 2 0))
+reads_are : (n i : ℕ) (fs : List (List ℕ)) (k : List ℕ → Option Line) → reads n i fs k ≡ on_some (numbers n (drop i fs)) k None
+unfolding numbers on_some
+reads_are zero i fs k = refl
+reads_are (suc n) i fs k = rw (get_or-drop i fs 0 [], add-zero, drop-drop, add-one) (cases (number (get_or fs i [])) (λ x. reads_are n (suc i) fs (λ w. k (x ∷ w))))
+  where
+    tail : (x : ℕ) (o : Option (List ℕ)) → on_some o (λ w. k (x ∷ w)) None ≡ on_some (option_map (λ w. x ∷ w) o) k None
+    tail x None = refl
+    tail x (Some w) = refl
 
-abbrev cancel_of : List ℕ → Line
-cancel_of w = Cancel (get_or w 0 0) (get_or w 1 0)
+    cases : (o : Option ℕ) → ((x : ℕ) → reads n (suc i) fs (λ w. k (x ∷ w)) ≡ on_some (numbers n (drop (suc i) fs)) (λ w. k (x ∷ w)) None)
+        → on_some o (λ x. reads n (suc i) fs (λ w. k (x ∷ w))) None ≡ on_some (on_some o (λ x. option_map (λ w. x ∷ w) (numbers n (drop (suc i) fs))) None) k None
+    cases None h = refl
+    cases (Some x) h = h x ∙ tail x (numbers n (drop (suc i) fs))
 
-abbrev row_of : List ℕ → Line
-row_of w = Row (record { ts_ns = get_or w 0 0; bid = get_or w 1 0; bid_lots = get_or w 2 0; ask = get_or w 3 0; ask_lots = get_or w 4 0 })
+-- a test of all fields, on some of them
+inside : {A : Type 0} (t : Bool) (o : Option A) (k : A → Option Line) → pick t (on_some o k None) None ≡ on_some o (λ x. pick t (k x) None) None
+unfolding pick on_some
+inside true o k = refl
+inside false None k = refl
+inside false (Some x) k = refl
+
+around : {A : Type 0} (t : Bool) (o : Option A) (k : A → Option Line) → pick t (on_some o k None) None ≡ on_some (pick t o None) k None
+unfolding pick on_some
+around true o k = refl
+around false o k = refl
+
+each : {A : Type 0} (o : Option A) {k m : A → Option Line} → ((x : A) → k x ≡ m x) → on_some o k None ≡ on_some o m None
+unfolding on_some
+each None h = refl
+each (Some x) h = h x
+
+-- a field that is not there writes no side
+pub no_side : (fs : List (List ℕ)) → None ≡ slice_get fs 0 → None ≡ side_of (get_or fs 0 [])
+unfolding side_of pick
+no_side fs e = rw (first_none fs e)
 
 module _ (fs : List (List ℕ)) where
-  pub config-is : config_line ([] ∷ fs) ≡ pick (only_numbers 6 fs).ok (config_of (only_numbers 6 fs).words) Bad
-  unfolding config_line reads
-  config-is = only_line 0 6 fs config_of (omega arith)
+  all_of : (n : ℕ) (k : List ℕ → Option Line) → pick (eqb (length fs) n) (reads n 0 fs k) None ≡ on_some (only_numbers n fs) k None
+  unfolding only_numbers
+  all_of n k = rw reads_are (around (eqb (length fs) n) (numbers n fs) k)
 
-  pub queue_is : queue_line ([] ∷ [] ∷ fs) ≡ pick (only_numbers 3 fs).ok (queue_of (only_numbers 3 fs).words) Bad
-  unfolding queue_line reads
-  queue_is = only_line 1 3 ([] ∷ fs) queue_of (omega arith)
+  pub config_is : config_line fs
+      ≡ on_some (only_numbers 6 fs) (λ w. Some (Config (record { quantum_ns = get_or w 0 0; observation_q = get_or w 1 0; ack_q = get_or w 2 0; jitter_q = get_or w 3 0; s_max = get_or w 5 0; fill = Immediate }) (get_or w 4 0))) None
+  unfolding config_line
+  config_is = all_of 6 _
 
-  pub cancel-is : cancel_line ([] ∷ fs) ≡ pick (only_numbers 2 fs).ok (cancel_of (only_numbers 2 fs).words) Bad
-  unfolding cancel_line reads
-  cancel-is = only_line 0 2 fs cancel_of (omega arith)
+  pub queue_is : queue_line fs ≡ on_some (only_numbers 3 fs) (λ w. Some (Fill (QueuePosition (get_or w 0 0) (get_or w 1 0) (get_or w 2 0)))) None
+  unfolding queue_line
+  queue_is = all_of 3 _
 
-  pub row_is : row_line ([] ∷ fs) ≡ pick (only_numbers 5 fs).ok (row_of (only_numbers 5 fs).words) Bad
-  unfolding row_line reads
-  row_is = only_line 0 5 fs row_of (omega arith)
+  pub cancel_is : cancel_line fs ≡ on_some (only_numbers 2 fs) (λ w. Some (Cancel (get_or w 0 0) (get_or w 1 0))) None
+  unfolding cancel_line
+  cancel_is = all_of 2 _
 
--- ---- `f`: a word first
-pub now_bare : (fs : List (List ℕ)) → fs ≡ [] → Fill Immediate ≡ now_line ([] ∷ [] ∷ fs)
-unfolding now_line pick
-now_bare fs h = rw h
+  pub row_is : row_line fs
+      ≡ on_some (only_numbers 5 fs) (λ w. Some (Row (record { ts_ns = get_or w 0 0; bid = get_or w 1 0; bid_lots = get_or w 2 0; ask = get_or w 3 0; ask_lots = get_or w 4 0 }))) None
+  unfolding row_line
+  row_is = all_of 5 _
 
-pub now_more : (fs : List (List ℕ)) → 0 < length fs → Bad ≡ now_line ([] ∷ [] ∷ fs)
-unfolding now_line pick
-now_more fs h = rw (ne_eqb (suc (suc (length fs))) 2 (λ z. omega arith))
+  abbrev order_of : List ℕ → Side → List ℕ → Option Line
+  order_of v side w = Some (Order (record { id = get_or v 1 0; side = side; price = get_or w 0 0; qty = get_or w 1 0; filled = 0; state = Submitted; active_after_ns = get_or v 0 0; cancel_inflight = false }) (get_or w 2 0))
 
--- a word is there: what stands behind it does not depend on it
-now_behind : (fs : List (List ℕ)) → same (get_or fs 0 []) (bytes "now") ≡ true → now_line ([] ∷ fs) ≡ now_line ([] ∷ [] ∷ drop 1 fs)
-unfolding now_line same
-now_behind [] h = let z : ◌≡◌ {A = ℕ} 0 1 = cc in absurd (omega arith)
-now_behind (f ∷ fs) h = refl
+  -- all fields are six where those behind the side are three
+  six : eqb (length (drop 3 fs)) 3 ≡ eqb (length fs) 6
+  six = rw length-drop (grind (arith, nat_tests))
 
-queue_behind : (fs : List (List ℕ)) → same (get_or fs 0 []) (bytes "queue") ≡ true → queue_line ([] ∷ fs) ≡ queue_line ([] ∷ [] ∷ drop 1 fs)
-unfolding queue_line same
-queue_behind [] h = let z : ◌≡◌ {A = ℕ} 0 1 = cc in absurd (omega arith)
-queue_behind (f ∷ fs) h = refl
+  -- the numbers behind the side
+  back : (v : List ℕ) (side : Side) → pick (eqb (length fs) 6) (reads 3 3 fs (order_of v side)) None ≡ on_some (only_numbers 3 (drop 3 fs)) (order_of v side) None
+  unfolding only_numbers
+  back v side = rw (reads_are, six) (around (eqb (length fs) 6) (numbers 3 (drop 3 fs)) (order_of v side))
 
--- f is the word, gs what stands behind it
-module _ (fs gs : List (List ℕ)) (f : List ℕ) (e : f ≡ get_or fs 0 []) (g : gs ≡ drop 1 fs) (s : Bool) (is-now : s ≡ same f (bytes "now")) where
-  pub fill_now : s ≡ true → (x : Line) → x ≡ now_line ([] ∷ [] ∷ gs) → x ≡ fill_mode_line ([] ∷ fs)
-  unfolding fill_mode_line pick
-  fill_now h x r =
-      let z : same (get_or fs 0 []) (bytes "now") ≡ true = rw (← e, ← is-now) h in
-      rw (r, g, z) (sym (now_behind fs z))
+  pub order_is : order_line fs
+      ≡ on_some (numbers 2 fs) (λ v. on_some (side_of (get_or (drop 2 fs) 0 [])) (λ side. on_some (only_numbers 3 (drop 1 (drop 2 fs))) (order_of v side) None) None) None
+  unfolding order_line
+  order_is =
+      let t : Bool = eqb (length fs) 6 in
+      let side : Option Side = side_of (get_or fs 2 []) in
+      rw (get_or-drop 2 fs 0 [], drop-drop)
+      (ap (λ (x : Option Line). pick t x None) (reads_are 2 0 fs (λ v. on_some side (λ d. reads 3 3 fs (order_of v d)) None))
+      ∙ inside t (numbers 2 fs) (λ v. on_some side (λ d. reads 3 3 fs (order_of v d)) None)
+      ∙ each (numbers 2 fs) (λ v. inside t side (λ d. reads 3 3 fs (order_of v d)) ∙ each side (λ d. back v d)))
 
-  module _ (h : s ≡ false) (q : Bool) (is-queue : q ≡ same f (bytes "queue")) where
-    pub fill_queue : q ≡ true → (x : Line) → x ≡ queue_line ([] ∷ [] ∷ gs) → x ≡ fill_mode_line ([] ∷ fs)
-    unfolding fill_mode_line pick
-    fill_queue k x r =
-        let z : same (get_or fs 0 []) (bytes "queue") ≡ true = rw (← e, ← is-queue) k in
-        rw (r, g, ← e, ← is-now, h, ← is-queue, k) (sym (queue_behind fs z))
-
-    pub fill_other : q ≡ false → Bad ≡ fill_mode_line ([] ∷ fs)
-    unfolding fill_mode_line pick
-    fill_other k = rw (← e, ← is-now, h, ← is-queue, k)
-
--- ---- an order: two numbers, its side, three numbers
-abbrev order_of : List ℕ → Side → List ℕ → Line
-order_of v d w = Order (record { id = get_or v 1 0; side = d; price = get_or w 0 0; qty = get_or w 1 0; filled = 0; state = Submitted; active_after_ns = get_or v 0 0; cancel_inflight = false }) (get_or w 2 0)
-
--- a test of the whole line, inside the choice of the side
-side_inside : (t : Bool) (s : MaybeSide) (k m : Side → Line) → ((d : Side) → pick t (k d) Bad ≡ m d) → pick t (on_side_field s k) Bad ≡ on_side_field s m
-unfolding on_side_field
-side_inside t side.None k m h = either-bad t
-side_inside t (side.Some d) k m h = h d
-
-pub order_is : (fs : List (List ℕ)) (a : Front) → a ≡ numbers_in 0 2 fs (replicate 6 0) → order_line ([] ∷ fs)
-    ≡ pick a.ok (on_side_field (side_of (get_or a.rest 0 [])) λ d. pick (only_numbers 3 (drop 1 a.rest)).ok (order_of a.words d (only_numbers 3 (drop 1 a.rest)).words) Bad) Bad
-unfolding order_line reads pick
-order_is fs a f = ap (λ (x : Line). pick (eqb (suc (length fs)) 7) x Bad) (reads-front 2 1 0 ([] ∷ fs) (replicate 6 0) K) ∙ rw (← f) (cases a.ok refl)
-  where
-    K : List ℕ → Line
-    K v = on_side_field (side_of (get_or fs 2 [])) λ d. reads 3 4 0 ([] ∷ fs) (replicate 6 0) (order_of v d)
-
-    cases : (t : Bool) → a.ok ≡ t → pick (eqb (suc (length fs)) 7) (pick a.ok (K a.words) Bad) Bad
-        ≡ pick a.ok (on_side_field (side_of (get_or a.rest 0 [])) λ d. pick (only_numbers 3 (drop 1 a.rest)).ok (order_of a.words d (only_numbers 3 (drop 1 a.rest)).words) Bad) Bad
-    cases true e =
-        let z : a.rest ≡ drop 2 fs = rw f (ended 2 0 fs (replicate 6 0) (rw f at e)).behind in
-        rw (e, z, get_or-drop, drop-drop) (side_inside (eqb (suc (length fs)) 7) (side_of (get_or fs 2 [])) _ _ (λ d. only_line 3 3 fs (order_of a.words d) (omega arith)))
-    cases false e = rw e (either-bad (eqb (suc (length fs)) 7))
-
--- ---- a line by its first field, which is one letter
--- the field in front does not matter to what the others say
-abbrev by_letter : ℕ → List (List ℕ) → Line
-by_letter b fs =
-    pick (eqb b 99) (config_line ([] ∷ fs))
-    (pick (eqb b 102) (fill_mode_line ([] ∷ fs))
-    (pick (eqb b 111) (order_line ([] ∷ fs))
-    (pick (eqb b 120) (cancel_line ([] ∷ fs))
-    (pick (eqb b 114) (row_line ([] ∷ fs))
-    Bad))))
-
-chosen : (t : Bool) → pick t true false ≡ t
-unfolding pick
-chosen true = refl
-chosen false = refl
-
-same_letter : (b x : ℕ) → same (b ∷ []) (x ∷ []) ≡ eqb b x
-unfolding same
-same_letter b x = chosen (eqb b x)
-
-by_letter_lem : (b : ℕ) (fs : List (List ℕ)) → line_of ((b ∷ []) ∷ fs) ≡ by_letter b fs
-unfolding line_of config_line now_line queue_line fill_mode_line order_line cancel_line row_line
-by_letter_lem b fs = simp same_letter
-
-first_letter : (fs : List (List ℕ)) (f : List ℕ) → f ≡ get_or fs 0 [] → length f ≡ 1 → line_of fs ≡ by_letter (get_or f 0 0) (drop 1 fs)
-first_letter [] f e h = let z : ◌≡◌ {A = ℕ} 0 1 = rw e at h in absurd (omega arith)
-first_letter (p ∷ fs) f e h = rw e (cases p (rw e at h))
-  where
-    cases : (p : List ℕ) → length p ≡ 1 → line_of (p ∷ fs) ≡ by_letter (get_or p 0 0) fs
-    cases [] h = absurd (omega arith)
-    cases (b ∷ []) h = by_letter_lem b fs
-    cases (b ∷ x ∷ p) h = absurd (omega arith)
-
--- from place 2 on
-module _ (l f : List ℕ) (e : f ≡ get_or (fields_from l 0) 0 []) where
-  here : fields_from l 0 ≡ fields l
-  here = left-parts l 0 (omega arith)
-
-  pub letter_line : length f ≡ 1 → line_of (fields l) ≡ by_letter (get_or f 0 0) (fields_from l 2)
-  letter_line h =
-      let z : fields_from l 2 ≡ drop 1 (fields l) = rw (h, here) at (left-next l 0 (omega arith) f e) in
-      rw z (first_letter (fields l) f (rw here at e) h)
-
-  pub no_letter : (length f ≡ 1 → ⊥) → Bad ≡ line_of (fields l)
-  unfolding line_of pick
-  no_letter h = rw (← here, ← e, same_longer f (bytes "c") h, same_longer f (bytes "f") h, same_longer f (bytes "o") h, same_longer f (bytes "x") h, same_longer f (bytes "r") h)
+-- for code that reads an order
+pub ruleset order = (order_is, first_some, no_side)

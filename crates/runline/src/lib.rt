@@ -1,20 +1,18 @@
 // What a line of a run file says, wherever it stands: the kinds of lines.
 #![tactic(auto)]
 
-ghost use Rattle.std.specs.Prelude.{◌≡◌, [], ◌∷◌, ◌≤◌, replicate};
-ghost use Rattle.text.specs.Cursor.{fields_from};
+ghost use Rattle.std.specs.Prelude.{◌≡◌, drop, OnSome};
+ghost use Rattle.text.specs.Cursor.{left};
 ghost use Rattle.text.specs.Fields.{fields};
-ghost use Rattle.runline.specs.Lines.{side_of, config_line, now_line, queue_line, fill_mode_line, order_line, cancel_line, row_line, line_of};
-ghost use Rattle.runline.specs.Numbers.{numbers_in, front, only_numbers};
+ghost use Rattle.runline.specs.Lines.{side_of, config_line, fill_line, order_line, cancel_line, row_line, line_of, queue_line};
+ghost use Rattle.runline.specs.Numbers.{numbers, only_numbers};
 
 use book::config::{Config, FillMode, KernelTick};
 use book::{OrderState, Side, VenueOrder};
-use numbers::MaybeU64;
-use text::fields::{field_from, is_same, next_from, number_from};
+use text::Fields;
 
 #[derive(Clone, Copy)]
 pub enum Line {
-    Bad,
     // c quantum observation ack jitter seed s_max
     Config { cfg: Config, seed: u64 },
     // f now, or f queue rate per min
@@ -27,221 +25,132 @@ pub enum Line {
     Row(KernelTick),
 }
 
-#[derive(Clone, Copy)]
-pub enum MaybeSide {
-    None,
-    Some(Side),
-}
-
-// Numbers that stand one behind the other, where each field writes one, and the place of the field behind them.
-#[derive(Clone, Copy)]
-struct Numbers {
-    ok: bool,
-    words: [u64; 6],
-    next: usize,
-}
-
-// The same where no field stands behind them.
-#[derive(Clone, Copy)]
-struct Words {
-    ok: bool,
-    words: [u64; 6],
-}
-
-fn side_of(f: &[u8]) -> MaybeSide
-    ensures { result ≡ side_of f.now }
+#[tactic(auto, using(crate::proofs::Words::letters), unfolding(crate::specs::Lines::side_of, numbers::specs::Choice::pick))]
+fn side_of(field: &[u8]) -> Option<Side>
+    ensures { result ≡ side_of field.now }
 {
-    if is_same(f, b"B") {
-        return MaybeSide::Some(Side::Buy);
-    }
-    if is_same(f, b"S") {
-        return MaybeSide::Some(Side::Sell);
-    }
-    MaybeSide::None
-}
-
-// The numbers in the first n of the fields from place `at` on.
-fn numbers_from(l: &[u8], at: usize, n: usize) -> Numbers
-    requires { n ≤ 6 }
-    ensures { front result (fields_from l.now result.next) ≡ numbers_in 0 n (fields_from l.now at) (replicate 6 0) }
-{
-    let mut words = [0; 6];
-    let mut next = at;
-    let mut i = 0;
-    while i < n {
-        let read = number_from(l, next);
-        let value = read.value;
-        let MaybeU64::Some(x) = value else {
-            return Numbers {
-                ok: false,
-                words,
-                next,
-            };
-        };
-        words[i] = x;
-        next = read.next;
-        i += 1;
-    }
-    Numbers {
-        ok: true,
-        words,
-        next,
+    match field {
+        b"B" => Some(Side::Buy),
+        b"S" => Some(Side::Sell),
+        _ => None,
     }
 }
 
-// The numbers in the fields from place `at` on, if there are n fields and each writes one.
-fn only_numbers(l: &[u8], at: usize, n: usize) -> Words
-    requires { n ≤ 6 }
-    ensures { result ≡ only_numbers n (fields_from l.now at) }
+// The numbers in the next N fields, where each of them writes one.
+fn numbers<const N: usize>(fields: &mut Fields) -> Option<[u64; N]>
+    ensures words { result ≡ numbers N (left fields.old) }
+    ensures rest { OnSome result (left fields.new ≡ drop N (left fields.old)) }
 {
-    let read = numbers_from(l, at, n);
-    let words = read.words;
-    if !read.ok {
-        return Words { ok: false, words };
+    let mut words = [0; N];
+    for word in &mut words {
+        *word = fields.next_number()?;
     }
-    Words {
-        ok: read.next > l.len(),
-        words,
-    }
+    Some(words)
 }
 
-// A line of each kind, read from the field behind its first.
-fn config_line(l: &[u8], at: usize) -> Line
-    ensures { result ≡ config_line ([] ∷ fields_from l.now at) }
+// The numbers in the fields that are left, if they are N and each of them writes one.
+#[tactic(auto, using(crate::proofs::NumbersLaws::only))]
+fn only_numbers<const N: usize>(fields: &mut Fields) -> Option<[u64; N]>
+    ensures { result ≡ only_numbers N (left fields.old) }
 {
-    let read = only_numbers(l, at, 6);
-    if !read.ok {
-        return Line::Bad;
-    }
-    let w = read.words;
+    let words = numbers(fields)?;
+    fields.is_empty().then_some(words)
+}
+
+// A line of each kind, from the field behind its letter.
+#[tactic(auto, using(crate::proofs::LineLaws::config_is), unfolding(numbers::specs::Choice::on_some))]
+fn config_line(fields: &mut Fields) -> Option<Line>
+    ensures { result ≡ config_line (left fields.old) }
+{
+    let [quantum_ns, observation_q, ack_q, jitter_q, seed, s_max] = only_numbers::<6>(fields)?;
     let cfg = Config {
-        quantum_ns: w[0],
-        observation_q: w[1],
-        ack_q: w[2],
-        jitter_q: w[3],
-        s_max: w[5],
+        quantum_ns,
+        observation_q,
+        ack_q,
+        jitter_q,
+        s_max,
         fill: FillMode::Immediate,
     };
-    Line::Config { cfg, seed: w[4] }
+    Some(Line::Config { cfg, seed })
 }
 
-// `f now`, from the field behind that word.
-fn now_line(l: &[u8], at: usize) -> Line
-    ensures { result ≡ now_line ([] ∷ [] ∷ fields_from l.now at) }
+#[tactic(auto, using(crate::proofs::LineLaws::queue_is), unfolding(numbers::specs::Choice::on_some))]
+fn queue_line(fields: &mut Fields) -> Option<Line>
+    ensures { result ≡ queue_line (left fields.old) }
 {
-    if at > l.len() {
-        return Line::Fill(FillMode::Immediate);
-    }
-    Line::Bad
+    let [rate_lots, per_ms, min_queue_ms] = only_numbers::<3>(fields)?;
+    Some(Line::Fill(FillMode::QueuePosition {
+        rate_lots,
+        per_ms,
+        min_queue_ms,
+    }))
 }
 
-// `f queue`, from the field behind that word.
-fn queue_line(l: &[u8], at: usize) -> Line
-    ensures { result ≡ queue_line ([] ∷ [] ∷ fields_from l.now at) }
+#[tactic(auto, using(crate::proofs::Words::words), unfolding(crate::specs::Lines::fill_line, numbers::specs::Choice::pick))]
+fn fill_line(fields: &mut Fields) -> Option<Line>
+    ensures { result ≡ fill_line (left fields.old) }
 {
-    let read = only_numbers(l, at, 3);
-    if !read.ok {
-        return Line::Bad;
+    match fields.next_field()? {
+        b"now" => fields.is_empty().then_some(Line::Fill(FillMode::Immediate)),
+        b"queue" => queue_line(fields),
+        _ => None,
     }
-    let w = read.words;
-    Line::Fill(FillMode::QueuePosition {
-        rate_lots: w[0],
-        per_ms: w[1],
-        min_queue_ms: w[2],
-    })
 }
 
-fn fill_line(l: &[u8], at: usize) -> Line
-    ensures { result ≡ fill_mode_line ([] ∷ fields_from l.now at) }
+#[tactic(auto, using(crate::proofs::LineLaws::order), unfolding(numbers::specs::Choice::on_some))]
+fn order_line(fields: &mut Fields) -> Option<Line>
+    ensures { result ≡ order_line (left fields.old) }
 {
-    let mode = field_from(l, at);
-    let next = next_from(l, at);
-    if is_same(mode, b"now") {
-        return now_line(l, next);
-    }
-    if is_same(mode, b"queue") {
-        return queue_line(l, next);
-    }
-    Line::Bad
-}
-
-fn order_line(l: &[u8], at: usize) -> Line
-    ensures { result ≡ order_line ([] ∷ fields_from l.now at) }
-{
-    let front = numbers_from(l, at, 2);
-    if !front.ok {
-        return Line::Bad;
-    }
-    let f = field_from(l, front.next);
-    let MaybeSide::Some(side) = side_of(f) else {
-        return Line::Bad;
-    };
-    let next = next_from(l, front.next);
-    let back = only_numbers(l, next, 3);
-    if !back.ok {
-        return Line::Bad;
-    }
-    let v = front.words;
-    let w = back.words;
+    let [active_after_ns, id] = numbers::<2>(fields)?;
+    let side = side_of(fields.next_field()?)?;
+    let [price, qty, life] = only_numbers::<3>(fields)?;
     let order = VenueOrder {
-        id: v[1],
-        side,
-        price: w[0],
-        qty: w[1],
+        id,
+        price,
+        qty,
         filled: 0,
+        active_after_ns,
+        side,
         state: OrderState::Submitted,
-        active_after_ns: v[0],
         cancel_inflight: false,
     };
-    Line::Order { order, life: w[2] }
+    Some(Line::Order { order, life })
 }
 
-fn cancel_line(l: &[u8], at: usize) -> Line
-    ensures { result ≡ cancel_line ([] ∷ fields_from l.now at) }
+#[tactic(auto, using(crate::proofs::LineLaws::cancel_is), unfolding(numbers::specs::Choice::on_some))]
+fn cancel_line(fields: &mut Fields) -> Option<Line>
+    ensures { result ≡ cancel_line (left fields.old) }
 {
-    let read = only_numbers(l, at, 2);
-    if !read.ok {
-        return Line::Bad;
-    }
-    let w = read.words;
-    Line::Cancel {
-        eff_ns: w[0],
-        id: w[1],
-    }
+    let [eff_ns, id] = only_numbers::<2>(fields)?;
+    Some(Line::Cancel { eff_ns, id })
 }
 
-fn row_line(l: &[u8], at: usize) -> Line
-    ensures { result ≡ row_line ([] ∷ fields_from l.now at) }
+#[tactic(auto, using(crate::proofs::LineLaws::row_is), unfolding(numbers::specs::Choice::on_some))]
+fn row_line(fields: &mut Fields) -> Option<Line>
+    ensures { result ≡ row_line (left fields.old) }
 {
-    let read = only_numbers(l, at, 5);
-    if !read.ok {
-        return Line::Bad;
-    }
-    let w = read.words;
-    Line::Row(KernelTick {
-        ts_ns: w[0],
-        bid: w[1],
-        bid_lots: w[2],
-        ask: w[3],
-        ask_lots: w[4],
-    })
+    let [ts_ns, bid, bid_lots, ask, ask_lots] = only_numbers::<5>(fields)?;
+    Some(Line::Row(KernelTick {
+        ts_ns,
+        bid,
+        bid_lots,
+        ask,
+        ask_lots,
+    }))
 }
 
-// What a line says, wherever it stands: its first field is one letter.
-pub fn line_of(l: &[u8]) -> Line
-    ensures { result ≡ line_of (fields l.now) }
+// What a line says, wherever it stands, or none of a bad line. Its first field is its letter.
+#[tactic(auto, using(crate::proofs::Words::letters), unfolding(crate::specs::Lines::line_of, numbers::specs::Choice::pick))]
+pub fn line_of(line: &[u8]) -> Option<Line>
+    ensures { result ≡ line_of (fields line.now) }
 {
-    let kind = field_from(l, 0);
-    if kind.len() != 1 {
-        return Line::Bad;
-    }
-    let letter = kind[0];
-    match letter {
-        b'c' => config_line(l, 2),
-        b'f' => fill_line(l, 2),
-        b'o' => order_line(l, 2),
-        b'x' => cancel_line(l, 2),
-        b'r' => row_line(l, 2),
-        _ => Line::Bad,
+    let mut fields = Fields::new(line);
+    match fields.next_field()? {
+        b"c" => config_line(&mut fields),
+        b"f" => fill_line(&mut fields),
+        b"o" => order_line(&mut fields),
+        b"x" => cancel_line(&mut fields),
+        b"r" => row_line(&mut fields),
+        _ => None,
     }
 }

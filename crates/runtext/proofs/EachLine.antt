@@ -1,30 +1,46 @@
 -- What is so of the start of every run text: what holds before the first line, and is kept by each, holds of all that was read. Assumes nothing.
-use Prim.Native.Nat.{ℕ, ◌+◌}
-use mathlib.Core.List.{List, [], ◌∷◌}
+use Rattle.std.specs.Prelude.{Option, Some, None, IfSome}
+use Rattle.std.proofs.lemmas.Option.{MatchOption-at_some}
+use Prim.Native.Nat.{ℕ, zero, suc, ◌+◌}
+use mathlib.Core.List.{List, [], ◌∷◌, map}
 use mathlib.Core.Path.{◌≡◌, refl}
-use Rattle.numbers.specs.declared.MaybeU64.{MaybeU64}
-use Rattle.lists.specs.Lists.{below, total}
-use Rattle.lists.proofs.Cases.{pick_case}
-use Rattle.msgs.specs.Rows.{msgs_row}
+use native.Mathlib.Omega.{arith}
+use lib.ListN.{take}
+use Rattle.numbers.specs.Choice.{pick, on_some}
+use Rattle.lists.specs.Lists.{below, put_at, total}
+use Rattle.lists.proofs.Cases.{pick_case, some_case}
+use Rattle.lists.proofs.Sums.{put_case, Added}
+use Rattle.lists.specs.declared.Arr.{Arr}
+use Rattle.book.specs.Capacities.{msgs_capacity}
+use Rattle.book.specs.Entries.{on_side}
 use Rattle.book.specs.declared.MsgKind.{MsgKind}
 use Rattle.book.specs.declared.MsgKind.TheVariants.{Cancel, Activate, Expire}
+use Rattle.book.specs.declared.Side.{Side}
+use Rattle.book.specs.declared.Side.TheVariants.{Buy, Sell}
 use Rattle.book.specs.declared.VenueMsg.{VenueMsg}
 use Rattle.book.specs.declared.VenueOrder.{VenueOrder}
-use Rattle.msgs.specs.declared.Msgs.{Msgs}
-use Rattle.account.specs.declared.AgentAccount.{AgentAccount}
+use Rattle.msgs.specs.Rows.{Msgs}
+use Rattle.account.specs.Rows.{AgentAccount}
 use Rattle.state.specs.declared.KernelState.{KernelState}
+use Rattle.rules.specs.Conservation.{of_side}
 use Rattle.text.specs.Fields.{fields}
 use Rattle.runline.specs.Lines.{line_of}
-use Rattle.runtake.specs.Take.{take_config, take_fill, take_order, in_flight, marked_kind, marked, marked_in, take_cancel, LineTaken, take_row, take_line}
-use Rattle.runtext.specs.Read.{blank_reading, start_state, script_of, Read, closing, read_parts, read_text}
+use Rattle.runtake.specs.Take.{blank_reading, take_config, take_fill, reserved, put_in, queued, take_order, in_flight, marked_kind, marked, marked_in, take_cancel, Taken, take_row, above_rows, take_line, take_text}
+use Rattle.runtext.specs.Read.{start_state, script_of, Read, closing, read_parts, read_lines, read_text}
 use Rattle.runline.specs.declared.Line.{Line}
 use Rattle.runline.specs.declared.Line.TheVariants as line
 use Rattle.runtake.specs.declared.Lots.{Lots}
 use Rattle.runtake.specs.declared.Reading.{Reading}
-use Rattle.runtake.specs.declared.Taken.{Taken}
-use Rattle.runtext.proofs.Start.{Unfilled, line_unfilled, total-same}
+use Rattle.runtext.proofs.Unfilled.{Unfilled, line_unfilled}
 
 -- ---- marks: what goes by a message's kind, and not by the mark of the order that it carries, adds up to as much
+-- a sum stays where each entry is rewritten to one that adds as much
+total-same : {A : Type 0} (f : A → ℕ) (g : A → A) → ((x : A) → f (g x) ≡ f x) → (n : ℕ) (l : List A) → total f (take n (map g l)) ≡ total f (take n l)
+unfolding total
+total-same f g h zero l = refl
+total-same f g h (suc n) [] = refl
+total-same f g h (suc n) (x ∷ l) = let e = total-same f g h n l in omega (arith, h x)
+
 module _ (f : MsgKind → ℕ) (id : ℕ) (h : (o : VenueOrder) (life : ℕ) → f (Activate (in_flight o) life) ≡ f (Activate o life)) where
   kind_same : (k : MsgKind) → f (marked_kind id k) ≡ f k
   kind_same (Cancel i) = refl
@@ -35,59 +51,100 @@ module _ (f : MsgKind → ℕ) (id : ℕ) (h : (o : VenueOrder) (life : ℕ) →
   unfolding marked
   marked-same m = kind_same m.kind
 
-  pub marks_same : (ms : Msgs) → total (λ (m : VenueMsg). f m.kind) (below (msgs_row (marked_in id ms))) ≡ total (λ (m : VenueMsg). f m.kind) (below (msgs_row ms))
+  pub marks_same : (ms : Msgs) → total (λ (m : VenueMsg). f m.kind) (below (marked_in id ms)) ≡ total (λ (m : VenueMsg). f m.kind) (below ms)
   unfolding marked_in
   marks_same ms = total-same (λ (m : VenueMsg). f m.kind) (marked id) marked-same ms.count ms.slots
+
+-- ---- an order's lots
+-- from the lots l to the lots m, n lots of side e have come
+abbrev pub Grown : Side → ℕ → Lots → Lots → Type 0
+Grown e n l m = (d : Side) → on_side d m.buy m.sell ≡ of_side d e n + on_side d l.buy l.sell
+
+-- lots come to their side alone
+grown-one : (l : Lots) (e : Side) (n : ℕ) → Grown e n l (on_side e (record { buy = l.buy + n; sell = l.sell }) (record { buy = l.buy; sell = l.sell + n }))
+unfolding on_side
+grown-one l Buy n Buy = omega arith
+grown-one l Buy n Sell = omega arith
+grown-one l Sell n Buy = omega arith
+grown-one l Sell n Sell = omega arith
+
+-- ---- the steps of a line, each of which may find it bad
+module _ (P : Option Reading → Type 0) where
+  -- lots are reserved
+  pub reserved_case : (l : Lots) (e : Side) (n : ℕ) {k : Lots → Option Reading} → ((m : Lots) → Grown e n l m → P (k m)) → P None → P (on_some (reserved l e n) k None)
+  unfolding reserved on_some
+  reserved_case l e n {k} h g = pick_case (λ o. P (on_some o k None)) _ _ _ (λ _. h _ (grown-one l e n)) (λ _. g)
+
+  -- an entry goes into a list
+  pub put_in_case : {A : Type 0} {n : ℕ} (most i : ℕ) (v : A) (r : Arr A n) {k : Arr A n → Option Reading} → ((l : Arr A n) → Added most v r l → P (k l)) → P None → P (on_some (put_in (put_at most i v r)) k None)
+  unfolding on_some pick
+  put_in_case most i v r {k} h g = put_case most (λ p. P (on_some (put_in p) k None)) i v r h g
+
+  -- a message is queued
+  pub queued_case : (eff : ℕ) (kind : MsgKind) (ms : Msgs) {k : Msgs → Option Reading}
+      → ((l : Msgs) → Added msgs_capacity (record { eff_ns = eff; seq = ms.count; kind = kind }) ms l → P (k l)) → P None → P (on_some (queued eff kind ms) k None)
+  unfolding queued
+  queued_case eff kind ms h g = put_in_case _ _ _ ms h g
 
 -- ---- what each line keeps
 -- only these parts of a reading matter: a line that leaves them keeps it as it stands
 abbrev pub Of : (Msgs → Lots → AgentAccount → Type 0) → Reading → Type 0
 Of C r = C r.msgs r.lots r.account
 
+-- of a line that is not bad
+abbrev pub Keeps : (Msgs → Lots → AgentAccount → Type 0) → Option Reading → Type 0
+Keeps C o = IfSome o (Of C)
+
 module _ (C : Msgs → Lots → AgentAccount → Type 0) (S : KernelState → Type 0)
     (starts : (r : Reading) → Of C r → S (start_state r))
     (blank : Of C blank_reading)
-    (order : (n : ℕ) (o : VenueOrder) (life : ℕ) (r : Reading) → o.filled ≡ 0 → Of C r → Of C (take_order n o life r).reading)
-    (cancel : (n eff id : ℕ) (r : Reading) → Of C r → Of C (take_cancel n eff id r).reading) where
+    (order : (n : ℕ) (o : VenueOrder) (life : ℕ) (r : Reading) → o.filled ≡ 0 → Of C r → Keeps C (take_order n o life r))
+    (cancel : (n eff id : ℕ) (r : Reading) → Of C r → Keeps C (take_cancel n eff id r)) where
+  abbrev Still : Option Taken → Type 0
+  Still o = IfSome o (λ t. Of C t.reading)
+
+  -- above the rows
+  above_keeps : (o : Option Reading) (w : List ℕ) → Keeps C o → Still (above_rows o w)
+  above_keeps None w h = tt
+  above_keeps (Some r) w h = h
+
   -- every line; all but `o` and `x` leave messages, lots and account as they are
-  line_keeps : (n : ℕ) (l : Line) (r : Reading) (w : List ℕ) → Unfilled l → Of C r → Of C (take_line n l r w).reading
+  line_keeps : (n : ℕ) (l : Line) (r : Reading) (w : List ℕ) → Unfilled l → Of C r → Still (take_line n l r w)
   unfolding take_line take_config take_fill take_row Unfilled
-  line_keeps n line.Bad r w u h = h
-  line_keeps n (line.Config cfg seed) r w u h = pick_case (λ (t : Taken). Of C t.reading) _ _ _ (λ _. h) (λ _. h)
-  line_keeps n (line.Fill f) r w u h = pick_case (λ (t : Taken). Of C t.reading) _ _ _ (λ _. h) (λ _. h)
-  line_keeps n (line.Order o life) r w u h = order n o life r u h
-  line_keeps n (line.Cancel eff id) r w u h = cancel n eff id r h
-  line_keeps n (line.Row t) r w u h =
-      let P : LineTaken → Type 0 = λ t. Of C t.reading in
-      pick_case P _ _ _ (λ _. h) (λ _. pick_case P _ _ _ (λ _. h) (λ _. h))
+  line_keeps n (line.Config cfg seed) r w u h = above_keeps _ w (pick_case (Keeps C) _ _ _ (λ _. h) (λ _. tt))
+  line_keeps n (line.Fill f) r w u h = above_keeps _ w (pick_case (Keeps C) _ _ _ (λ _. h) (λ _. tt))
+  line_keeps n (line.Order o life) r w u h = above_keeps _ w (order n o life r u h)
+  line_keeps n (line.Cancel eff id) r w u h = above_keeps _ w (cancel n eff id r h)
+  line_keeps n (line.Row t) r w u h = pick_case Still _ _ _ (λ _. tt) (λ _. pick_case Still _ _ _ (λ _. h) (λ _. tt))
+
+  text_keeps : (n : ℕ) (l : List ℕ) (r : Reading) (w : List ℕ) → Of C r → Still (take_text n l r w)
+  unfolding take_text
+  text_keeps n l r w h = some_case Still (line_of (fields l)) _ _ (λ x e. line_keeps n x r w (line_unfilled (fields l) x e) h) (λ _. tt)
 
   -- what was read starts so
   abbrev Starts : Read → Type 0
   Starts q = S q.script.state
 
-  -- whatever it says of a bad line
-  script_starts : (m : MaybeU64) (r : Reading) → Of C r → S (script_of m r).state
+  script_starts : (r : Reading) → Of C r → S (script_of r).state
   unfolding script_of
-  script_starts m r h = starts r h
+  script_starts r h = starts r h
 
   -- at the end of the text
   closing_starts : (n : ℕ) (r : Reading) (w l : List ℕ) → Of C r → Starts (closing n r w l)
   unfolding closing
-  closing_starts n r w l h =
-      pick_case Starts _ _ _ (λ _. pick_case Starts _ _ _ (λ _. script_starts _ r h) (λ _. script_starts _ r h)) (λ _. script_starts _ r h)
+  closing_starts n r w l h = pick_case Starts _ _ _ (λ _. pick_case Starts _ _ _ (λ _. script_starts r h) (λ _. script_starts r h)) (λ _. script_starts r h)
 
   -- line by line, up to the first bad one
   parts-start : (n : ℕ) (r : Reading) (w : List ℕ) (ls : List (List ℕ)) → Of C r → Starts (read_parts n r w ls)
   unfolding read_parts
   parts-start n r w [] h = closing_starts n r w [] h
   parts-start n r w (l ∷ ls) h =
-      let t : LineTaken = take_line n (line_of (fields l)) r w in
       pick_case Starts _ _ _ (λ _. closing_starts n r w l h)
-      (λ _. pick_case Starts _ _ _
-      (λ _. parts-start (n + 1) t.reading t.words ls (line_keeps n (line_of (fields l)) r w (line_unfilled (fields l)) h))
-      (λ _. script_starts _ r h))
+      (λ _. some_case Starts (take_text n l r w) _ _
+      (λ t e. parts-start (n + 1) t.reading t.words ls (MatchOption-at_some _ (λ (t : Taken). Of C t.reading) t e (text_keeps n l r w h)))
+      (λ _. script_starts r h))
 
   -- every text, bad ones included: a bad line changes nothing
   pub text_starts : (text words : List ℕ) → S (read_text text words).script.state
-  unfolding read_text
-  text_starts text words = pick_case Starts _ _ _ (λ _. parts-start 0 blank_reading words _ blank) (λ _. script_starts _ blank_reading blank)
+  unfolding read_text read_lines
+  text_starts text words = pick_case Starts _ _ _ (λ _. parts-start 0 blank_reading words _ blank) (λ _. script_starts blank_reading blank)

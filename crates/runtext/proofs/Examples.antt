@@ -1,4 +1,5 @@
 -- Document 01's sample run file read whole, and run files at the limits of the grammar. Assumes nothing.
+use Rattle.std.specs.Prelude.{Option, Some, None, is_some}
 use Prim.Native.Nat.{ℕ, zero, suc, ◌<◌}
 use Prim.Native.String.{String, ◌++◌ as ◌then◌}
 use mathlib.Core.Bool.{Bool, true, false}
@@ -6,10 +7,8 @@ use mathlib.Core.Path.{◌≡◌, refl}
 use mathlib.Core.List.{List, [], ◌∷◌, ◌++◌, map}
 use lib.ListN.{length, replicate, take}
 use borrow.Author.Tests.{lt-leb}
-use Rattle.numbers.specs.Choice.{pick}
-use Rattle.numbers.specs.Words.{fits, fitting, on_word}
-use Rattle.numbers.specs.declared.MaybeU64.{MaybeU64}
-use Rattle.numbers.specs.declared.MaybeU64.TheVariants.{None, Some}
+use Rattle.numbers.specs.Choice.{pick, on_some}
+use Rattle.numbers.specs.Words.{fits, fitting}
 use Rattle.lists.specs.Lists.{live, insert_at, before, placed, put_at}
 use Rattle.book.specs.Entries.{on_side}
 use Rattle.book.specs.declared.MsgKind.{MsgKind}
@@ -18,10 +17,10 @@ use Rattle.book.specs.declared.VenueMsg.{VenueMsg}
 use Rattle.book.specs.declared.config.KernelTick.{KernelTick}
 use Rattle.rules.proofs.Sample.{config, start, rows}
 use Rattle.text.specs.Bytes.{bytes}
-use Rattle.text.specs.Fields.{parted, same, are_digits, value, number}
-use Rattle.runline.specs.Lines.{side_of, on_side_field, config_line, now_line, queue_line, fill_mode_line, order_line, cancel_line, row_line, line_of}
-use Rattle.runtake.specs.Take.{take_config, take_fill, is_message_due, reserved, on_reserved, on_put, take_order, marked, marked_in, take_cancel, take_row, take_line}
-use Rattle.runtext.specs.Read.{blank_reading, seeded, start_state, script_of, read_with, closing, read_parts, Read, read_text}
+use Rattle.text.specs.Fields.{parted, are_digits, value, number}
+use Rattle.runline.specs.Lines.{side_of, config_line, queue_line, fill_line, order_line, cancel_line, row_line, line_of}
+use Rattle.runtake.specs.Take.{blank_reading, take_config, take_fill, is_message_due, reserved, queued, take_order, marked, marked_in, take_cancel, take_row, take_line, take_text}
+use Rattle.runtext.specs.Read.{seeded, start_state, script_of, Read, closing, read_parts, read_lines, read_text}
 use Rattle.runtake.specs.declared.Reading.{Reading}
 
 -- with room for the words of 512 rows, as `replay` lends it
@@ -29,9 +28,9 @@ abbrev pub read : String → Read
 read s = read_text (bytes s) (replicate 2560 0)
 
 -- to unfold it is to unfold the reading
-unfoldable pub bad_of : String → MaybeU64
-unfolding pick fits fitting on_word live insert_at before placed put_at on_side parted same are_digits value number side_of on_side_field config_line now_line queue_line fill_mode_line order_line cancel_line row_line line_of take_config take_fill is_message_due reserved on_reserved on_put take_order marked marked_in take_cancel take_row take_line seeded start_state script_of closing read_parts read_text
-bad_of s = (read s).script.bad
+unfoldable pub bad_of : String → Option ℕ
+unfolding pick fits fitting on_some live insert_at before placed put_at on_side parted are_digits value number side_of config_line queue_line fill_line order_line cancel_line row_line line_of take_config take_fill is_message_due reserved queued take_order marked marked_in take_cancel take_row take_line take_text seeded start_state script_of closing read_parts read_lines read_text
+bad_of s = (read s).bad
 
 -- n times the same line
 times : ℕ → String → String
@@ -63,7 +62,7 @@ tick : KernelTick
 tick = record { ts_ns = 1; bid = 1; bid_lots = 1; ask = 1; ask_lots = 1 }
 
 -- document 01's sample: the configuration, the state and the row with which `rules` runs it
-pub sample : read "c 1000 0 1 0 7 9\nf now\no 10 1 B 101 5 0\nr 20 99 4 101 6\n" ≡ read_with (record { bad = None; cfg = config; state = start; rows = 1 }) (rows ++ replicate 2555 0)
+pub sample : read "c 1000 0 1 0 7 9\nf now\no 10 1 B 101 5 0\nr 20 99 4 101 6\n" ≡ record { bad = None; script = record { cfg = config; state = start; rows = 1 }; words = rows ++ replicate 2555 0 }
 unfolding bad_of
 sample = refl
 
@@ -77,7 +76,7 @@ examples :
     × (map (λ s. bad_of (from s)) (times 8 "o 1 1 B 1 1 0\n" ∷ times 9 "o 1 1 B 1 1 0\n" ∷ times 16 "x 1 1\n" ∷ times 17 "x 1 1\n" ∷ "o 1 1 B 1 18446744073709551615 0\n" ∷ "o 1 1 B 1 18446744073709551615 0\no 1 1 S 1 1 0\n" ∷ [])
     ≡ None ∷ Some 11 ∷ None ∷ Some 19 ∷ None ∷ Some 4 ∷ [])
     -- 512 rows and one more
-    × (map (λ n. (take_row 2 tick (full n) []).ok) (511 ∷ 512 ∷ []) ≡ true ∷ false ∷ [])
+    × (map (λ n. is_some (take_row 2 tick (full n) [])) (511 ∷ 512 ∷ []) ≡ true ∷ false ∷ [])
     -- an x marks the orders before it, by line and not by time; each line takes the next number
     × (map brief (take 3 (read (from "o 9 7 B 1 1 0\nx 5 7\no 3 7 S 1 1 0\n")).script.state.msgs.slots)
     ≡ record { eff = 3; seq = 2; mark = false } ∷ record { eff = 5; seq = 1; mark = false } ∷ record { eff = 9; seq = 0; mark = true } ∷ [])
@@ -87,6 +86,6 @@ unfolding bad_of times from is_marked brief full tick
 examples = (refl, refl, refl, refl, refl, refl)
 
 -- "at most 65,536 bytes"; "file too long ..: 0"
-pub too_long : (text words : List ℕ) → 65536 < length text → (read_text text words).script.bad ≡ Some 0
-unfolding read_text script_of pick
+pub too_long : (text words : List ℕ) → 65536 < length text → (read_text text words).bad ≡ Some 0
+unfolding read_text read_lines pick
 too_long text words h = rw (lt-leb (length text) 65536 h)

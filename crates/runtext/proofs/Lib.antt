@@ -1,5 +1,6 @@
 pub mod ReadLaws
-pub mod Examples
+pub mod Unfilled
 pub mod EachLine
 pub mod Start
 pub mod Uncut
+pub mod Examples

@@ -5,10 +5,9 @@ use mathlib.Core.Path.{◌≡◌, refl}
 use native.Mathlib.Omega.{arith}
 use Rattle.lists.specs.Lists.{below, total}
 use Rattle.lists.proofs.Cases.{pick_case}
-use Rattle.msgs.specs.Rows.{msgs_row}
 use Rattle.book.specs.declared.VenueOrder.{VenueOrder}
-use Rattle.msgs.specs.declared.Msgs.{Msgs}
-use Rattle.account.specs.declared.AgentAccount.{AgentAccount}
+use Rattle.msgs.specs.Rows.{Msgs}
+use Rattle.account.specs.Rows.{AgentAccount}
 use Rattle.state.specs.declared.KernelState.{KernelState}
 use Rattle.rules.specs.Batch.{state_after}
 use Rattle.rules.specs.Calls.{Answer, pass}
@@ -16,58 +15,56 @@ use Rattle.rules.specs.Conservation.{Call, advances, passes}
 use Rattle.rules.specs.FewEvents.{raisable_kind, raisable, msgs_events}
 use Rattle.rules.proofs.Cases.{word_case}
 use Rattle.rules.proofs.HowFar.{few-events}
-use Rattle.runtake.specs.Take.{take_order, take_cancel}
-use Rattle.runtext.specs.Read.{blank_reading, start_state, read_text}
+use Rattle.runtake.specs.Take.{blank_reading, take_order, take_cancel}
+use Rattle.runtext.specs.Read.{start_state, read_text}
 use Rattle.runtext.specs.Uncut.{Uncut}
-use Rattle.runtext.proofs.EachLine.{marks_same, text_starts}
-use Rattle.runtext.proofs.Start.{put_in_case, reserved_case}
+use Rattle.runtext.proofs.EachLine.{marks_same, reserved_case, put_in_case, queued_case, Keeps, text_starts}
+use Rattle.runtake.specs.declared.Lots.{Lots}
 use Rattle.runtake.specs.declared.Reading.{Reading}
-use Rattle.runtake.specs.declared.Taken.{Taken}
 
 -- ---- what is so between two lines
 -- an activation for each account that is opened, and besides them only cancels
 record LightBy (ms : Msgs) (account : AgentAccount) : Type 0 where
   msgs : ms.count ≤ 16
   accounts : account.count ≤ 8
-  extras : total raisable (below (msgs_row ms)) ≤ 3 * account.count
+  extras : total raisable (below ms) ≤ 3 * account.count
 
-abbrev Light : Reading → Type 0
-Light r = LightBy r.msgs r.account
+abbrev Light : Msgs → Lots → AgentAccount → Type 0
+Light ms lots account = LightBy ms account
 
-abbrev LightAfter : Taken → Type 0
-LightAfter t = Light t.reading
-
-blank_light : Light blank_reading
+blank_light : LightBy blank_reading.msgs blank_reading.account
 unfolding total
 blank_light = record { msgs = omega arith; accounts = omega arith; extras = omega arith }
 
 -- `o`
-order_light : (n : ℕ) (o : VenueOrder) (life : ℕ) (r : Reading) → o.filled ≡ 0 → Light r → LightAfter (take_order n o life r)
+order_light : (n : ℕ) (o : VenueOrder) (life : ℕ) (r : Reading) → o.filled ≡ 0 → LightBy r.msgs r.account → Keeps Light (take_order n o life r)
 unfolding take_order
 order_light n o life r z h =
-    pick_case LightAfter _ _ _
-    (λ _. reserved_case LightAfter r.lots o.side o.qty
-    (λ _ _. put_in_case LightAfter _
-    (λ account a. put_in_case LightAfter _
+    let P = Keeps Light in
+    pick_case P _ _ _
+    (λ _. reserved_case P r.lots o.side o.qty
+    (λ _ _. put_in_case P _ _ _ r.account
+    (λ account a. queued_case P _ _ r.msgs
     (λ l b. record { msgs = b.room; accounts = a.room; extras = omega (arith, a.one_more, b.sums raisable, h.extras) })
-    h) h) h)
-    (λ _. h)
+    tt) tt) tt)
+    (λ _. tt)
 
 -- `x`
-cancel-light : (n eff id : ℕ) (r : Reading) → Light r → LightAfter (take_cancel n eff id r)
+cancel-light : (n eff id : ℕ) (r : Reading) → LightBy r.msgs r.account → Keeps Light (take_cancel n eff id r)
 unfolding take_cancel
 cancel-light n eff id r h =
-    pick_case LightAfter _ _ _
-    (λ _. put_in_case LightAfter _ (λ l b. record { msgs = b.room; accounts = h.accounts; extras = omega (arith, b.sums raisable, marks_same raisable_kind id (λ o life. refl) r.msgs, h.extras) }) h)
-    (λ _. h)
+    let P = Keeps Light in
+    pick_case P _ _ _
+    (λ _. queued_case P _ _ _ (λ l b. record { msgs = b.room; accounts = h.accounts; extras = omega (arith, b.sums raisable, marks_same raisable_kind id (λ o life. refl) r.msgs, h.extras) }) tt)
+    (λ _. tt)
 
 -- the messages at the start can raise 56 events: 8 activations and 8 cancels
-starts_light : (r : Reading) → Light r → msgs_events (start_state r).msgs ≤ 56
+starts_light : (r : Reading) → LightBy r.msgs r.account → msgs_events (start_state r).msgs ≤ 56
 unfolding start_state
 starts_light r h = omega (arith, h.msgs, h.accounts, h.extras)
 
 text-light : (text words : List ℕ) → msgs_events (read_text text words).script.state.msgs ≤ 56
-text-light text words = text_starts (λ ms lots account. LightBy ms account) (λ (s : KernelState). msgs_events s.msgs ≤ 56) starts_light blank_light order_light cancel-light text words
+text-light text words = text_starts Light (λ (s : KernelState). msgs_events s.msgs ≤ 56) starts_light blank_light order_light cancel-light text words
 
 -- ---- no call makes them more
 pass-light : (w : ℕ) (s : KernelState) → msgs_events s.msgs ≤ w → msgs_events (pass s).state.msgs ≤ w

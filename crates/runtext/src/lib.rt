@@ -1,191 +1,171 @@
 // The run file of `replay` read whole, on a slice: its configuration, its rows and the state at the start. Nothing here opens a file.
 #![tactic(auto)]
 
-ghost use Rattle.std.specs.Prelude.{◌≡◌, ltb};
-ghost use Rattle.numbers.specs.Choice.{pick};
-ghost use Rattle.numbers.specs.declared.MaybeU64.TheVariants.{None, Some};
-ghost use Rattle.runtext.specs.Read.{blank_reading, seeded, start_state, script_of, read_text, read_with};
+ghost use Rattle.std.specs.Prelude.{◌≡◌, ◌&&◌, OnErr, eqb, leb, length};
+ghost use Rattle.runtake.specs.Take.{taken_words, take_text};
+ghost use Rattle.runtext.specs.Read.{seeded, start_state, script_of, read_of, lines_read, read_lines, read_text};
 
-use account::AgentAccount;
-use book::config::{Config, FillMode};
+use book::config::Config;
 use deliveries::Deliveries;
-use msgs::Msgs;
-use numbers::MaybeU64;
 use numbers::position::Position;
 use observed::Observed;
 use orders::Orders;
-use runline::{Line, line_of};
-use runtake::{Lots, Reading, take_head, take_row};
+use runline::line_of;
+use runtake::{BadLine, Reading, WORDS};
 use state::{AgentView, Clock, Control, Counters, GateState, KernelState, Phase, Seqs, Status};
-use text::fields::piece_end;
+use text::split_once;
 
-// A run file: the number of its first bad line, or none; then the run.
+// A run file has no more bytes.
+const MOST_BYTES: usize = 65536;
+
+// What seed 0 becomes.
+const DEFAULT_SEED: u64 = 0x9E37_79B9_7F4A_7C15;
+
+// A run: its configuration, its state at the start and how many rows it has.
 #[derive(Clone, Copy)]
 pub struct Script {
-    pub bad: MaybeU64,
     pub cfg: Config,
     pub state: KernelState,
     pub rows: usize,
 }
 
-fn blank_reading() -> Reading
-    ensures { result ≡ blank_reading }
-{
-    let cfg = Config {
-        quantum_ns: 0,
-        observation_q: 0,
-        ack_q: 0,
-        jitter_q: 0,
-        s_max: 0,
-        fill: FillMode::Immediate,
-    };
-    let lots = Lots { buy: 0, sell: 0 };
-    let msgs = Msgs::new();
-    let account = AgentAccount::new();
-    Reading {
-        cfg,
-        seed: 0,
-        lots,
-        msgs,
-        account,
-        rows: 0,
-    }
+// A run file with a bad line: the number of the first, and the run of the lines above it. A file that is too long has the number 0.
+#[derive(Clone, Copy)]
+pub struct BadFile {
+    pub line: u64,
+    pub above: Script,
 }
 
+#[tactic(auto, using(std::proofs::lemmas::Bool::Decides::nat_tests), unfolding(crate::specs::Read::seeded, numbers::specs::Choice::pick))]
 fn seed_of(seed: u64) -> u64
     ensures { result ≡ seeded seed }
 {
-    if seed == 0 {
-        return 0x9E3779B97F4A7C15;
-    }
-    seed
+    if seed == 0 { DEFAULT_SEED } else { seed }
 }
 
 // The state at the start.
-fn start_state(r: Reading) -> KernelState
-    ensures { result ≡ start_state r }
+#[tactic(auto, unfolding(crate::specs::Read::start_state))]
+fn start_state(reading: &Reading) -> KernelState
+    ensures { result ≡ start_state reading.now }
 {
-    let control = Control {
-        phase: Phase::ObsQueued,
-        resume: Phase::ObsQueued,
-        cursor: 0,
-        cur_row: MaybeU64::None,
-        step: 0,
-        status: Status::Running,
-    };
-    let clock = Clock {
-        now_ns: 0,
-        last_delivery_ns: 0,
-        last_observed_ns: 0,
-    };
-    let msgs = r.msgs;
-    let account = r.account;
-    let seqs = Seqs {
-        stamp_seq: 0,
-        next_msg_seq: msgs.count as u64,
-        next_exec_id: 0,
-    };
-    let venue_pos = Position { lots: 0 };
-    let gate = GateState {
-        venue_pos,
-        live_buy_lots: r.lots.buy,
-        live_sell_lots: r.lots.sell,
-        mark2: MaybeU64::None,
-    };
-    let pos = Position { lots: 0 };
-    let agent = AgentView {
-        pos,
-        last_obs_row: MaybeU64::None,
-        delivered_local_rejects: 0,
-        delivered_fills: 0,
-    };
-    let counters = Counters {
-        halts: 0,
-        venue_fills: 0,
-        eof_dropped_msgs: 0,
-        eof_dropped_obs: 0,
-    };
-    let rng_latency = seed_of(r.seed);
-    let orders = Orders::new();
-    let awaiting = Orders::new();
-    let deliveries = Deliveries::new();
-    let observed = Observed::new();
     KernelState {
-        control,
-        clock,
-        rng_latency,
-        seqs,
-        orders,
-        msgs,
-        awaiting,
-        gate,
-        deliveries,
-        observed,
-        agent,
-        account,
-        counters,
+        control: Control {
+            phase: Phase::ObsQueued,
+            resume: Phase::ObsQueued,
+            cursor: 0,
+            cur_row: None,
+            step: 0,
+            status: Status::Running,
+        },
+        clock: Clock {
+            now_ns: 0,
+            last_delivery_ns: 0,
+            last_observed_ns: 0,
+        },
+        rng_latency: seed_of(reading.seed),
+        seqs: Seqs {
+            stamp_seq: 0,
+            next_msg_seq: reading.msgs.count as u64,
+            next_exec_id: 0,
+        },
+        orders: Orders::new(),
+        msgs: reading.msgs,
+        awaiting: Orders::new(),
+        gate: GateState {
+            venue_pos: Position { lots: 0 },
+            live_buy_lots: reading.lots.buy,
+            live_sell_lots: reading.lots.sell,
+            mark2: None,
+        },
+        deliveries: Deliveries::new(),
+        observed: Observed::new(),
+        agent: AgentView {
+            pos: Position { lots: 0 },
+            last_obs_row: None,
+            delivered_local_rejects: 0,
+            delivered_fills: 0,
+        },
+        account: reading.account,
+        counters: Counters {
+            halts: 0,
+            venue_fills: 0,
+            eof_dropped_msgs: 0,
+            eof_dropped_obs: 0,
+        },
     }
 }
 
-fn script_of(bad: MaybeU64, r: Reading) -> Script
-    ensures { result ≡ script_of bad r }
-{
-    let cfg = r.cfg;
-    let state = start_state(r);
-    Script {
-        bad,
-        cfg,
-        state,
-        rows: r.rows,
+impl From<&Reading> for Script {
+    ghost from_gives = { λ reading script. script ≡ script_of reading.now };
+
+    #[tactic(auto, unfolding(crate::specs::Read::script_of))]
+    fn from(reading: &Reading) -> Script {
+        Script {
+            cfg: reading.cfg,
+            state: start_state(reading),
+            rows: reading.rows,
+        }
     }
 }
 
-// Behind the last newline, at `at`, and n lines: a line that is not ended is bad, and so is an absent `c` or `f`.
-fn bad_at_end(at: usize, end: usize, n: usize, nth: u64) -> MaybeU64
-    ensures { result ≡ pick (ltb at end) (Some nth) (pick (ltb n 2) (Some nth) None) }
+// A line as the text has it, behind n others.
+#[tactic(auto, unfolding(runtake::specs::Take::take_text, numbers::specs::Choice::on_some))]
+fn take_text(
+    reading: &mut Reading,
+    n: u64,
+    line: &[u8],
+    words: &mut [u64; WORDS],
+) -> Result<(), BadLine>
+    ensures takes { taken_words result reading.new words.new ≡ take_text n line.now reading.old words.old }
+    ensures keeps { OnErr result (reading.new ≡ reading.old) }
+    ensures words { OnErr result (words.new ≡ words.old) }
 {
-    if at < end {
-        return MaybeU64::Some(nth);
-    }
-    if n < 2 {
-        return MaybeU64::Some(nth);
-    }
-    MaybeU64::None
+    reading.take_line(n, line_of(line).ok_or(BadLine)?, words)
 }
 
-// The whole file. The words of its rows go to the front of `rows`. A row is taken apart from the lines above it, so that what those have said is not moved for it.
-pub fn read(text: &[u8], rows: &mut [u64; 2560]) -> Script
-    ensures { read_with result rows.new ≡ read_text text.now rows.old }
+// Whether a file with this behind its last newline, and n lines before, is whole: a line that is not ended is bad, and so is an absent `c` or `f`.
+#[tactic(auto, using(std::proofs::lemmas::Bool::Decides::nat_tests))]
+fn is_whole(rest: &[u8], n: u64) -> bool
+    ensures { result ≡ (eqb (length rest.now) 0 && leb 2 n) }
 {
-    let mut r = blank_reading();
-    if text.len() > 65536 {
-        return script_of(MaybeU64::Some(0), r);
+    rest.is_empty() && n >= 2
+}
+
+// The lines of the text. The error is the number of the first bad one.
+fn read_lines(reading: &mut Reading, text: &[u8], words: &mut [u64; WORDS]) -> Result<(), u64>
+    ensures { lines_read result reading.new words.new ≡ read_lines text.now reading.old words.old }
+{
+    if text.len() > MOST_BYTES {
+        return Err(0);
     }
+    let mut rest = text;
     let mut n = 0;
-    let mut at = 0;
-    loop {
-        let end = piece_end(text, at, b'\n');
-        let nth = n as u64 + 1;
-        if end >= text.len() {
-            let bad = bad_at_end(at, end, n, nth);
-            return script_of(bad, r);
-        }
-        let line = line_of(&text[at..end]);
-        let behind = n;
+    while let Some((line, behind)) = split_once(rest, b'\n') {
+        let Ok(()) = take_text(reading, n, line, words) else {
+            return Err(n + 1);
+        };
         n += 1;
-        at = end + 1;
-        if let Line::Row(tick) = line {
-            let row = r.rows;
-            if !take_row(behind, tick, row, rows) {
-                return script_of(MaybeU64::Some(nth), r);
-            }
-            r.rows = row + 1;
-        } else {
-            let t = take_head(behind, line, r);
-            if !t.ok {
-                return script_of(MaybeU64::Some(nth), r);
-            }
-            r = t.reading;
-        }
+        rest = behind;
+    }
+    if !is_whole(rest, n) {
+        return Err(n + 1);
+    }
+    Ok(())
+}
+
+// The whole file. The words of its rows go to the front of `words`.
+#[tactic(auto, unfolding(crate::specs::Read::read_text))]
+pub fn read(text: &[u8], words: &mut [u64; WORDS]) -> Result<Script, BadFile>
+    ensures { read_of result words.new ≡ read_text text.now words.old }
+{
+    let mut reading = Reading::new();
+    let outcome = read_lines(&mut reading, text, words);
+    let script = Script::from(&reading);
+    match outcome {
+        Ok(()) => Ok(script),
+        Err(line) => Err(BadFile {
+            line,
+            above: script,
+        }),
     }
 }

@@ -1,17 +1,16 @@
 -- A record with one field replaced, for each field of the state and of its parts: the logic has no update of a field.
-use Rattle.std.specs.Prelude.{ℕ}
-use Rattle.account.specs.declared.AgentAccount.{AgentAccount}
+use Rattle.std.specs.Prelude.{ℕ, Option}
+use Rattle.account.specs.Rows.{AgentAccount}
 use Rattle.state.specs.declared.AgentView.{AgentView}
 use Rattle.state.specs.declared.Clock.{Clock}
 use Rattle.state.specs.declared.Control.{Control}
 use Rattle.state.specs.declared.Counters.{Counters}
-use Rattle.deliveries.specs.declared.Deliveries.{Deliveries}
+use Rattle.deliveries.specs.Rows.{Deliveries}
 use Rattle.state.specs.declared.GateState.{GateState}
 use Rattle.state.specs.declared.KernelState.{KernelState}
-use Rattle.numbers.specs.declared.MaybeU64.{MaybeU64}
-use Rattle.msgs.specs.declared.Msgs.{Msgs}
-use Rattle.observed.specs.declared.Observed.{Observed}
-use Rattle.orders.specs.declared.Orders.{Orders}
+use Rattle.msgs.specs.Rows.{Msgs}
+use Rattle.observed.specs.Rows.{Observed}
+use Rattle.orders.specs.Rows.{Orders}
 use Rattle.state.specs.declared.Phase.{Phase}
 use Rattle.numbers.specs.declared.position.Position.{Position}
 use Rattle.state.specs.declared.Seqs.{Seqs}
@@ -66,7 +65,7 @@ control_resume s x = record { phase = s.phase; resume = x; cursor = s.cursor; cu
 abbrev pub control_cursor : Control → ℕ → Control
 control_cursor s x = record { phase = s.phase; resume = s.resume; cursor = x; cur_row = s.cur_row; step = s.step; status = s.status }
 
-abbrev pub control_cur_row : Control → MaybeU64 → Control
+abbrev pub control_cur_row : Control → Option ℕ → Control
 control_cur_row s x = record { phase = s.phase; resume = s.resume; cursor = s.cursor; cur_row = x; step = s.step; status = s.status }
 
 abbrev pub control_step : Control → ℕ → Control
@@ -105,14 +104,14 @@ gate_live_buy_lots s x = record { venue_pos = s.venue_pos; live_buy_lots = x; li
 abbrev pub gate_live_sell_lots : GateState → ℕ → GateState
 gate_live_sell_lots s x = record { venue_pos = s.venue_pos; live_buy_lots = s.live_buy_lots; live_sell_lots = x; mark2 = s.mark2 }
 
-abbrev pub gate_mark2 : GateState → MaybeU64 → GateState
+abbrev pub gate_mark2 : GateState → Option ℕ → GateState
 gate_mark2 s x = record { venue_pos = s.venue_pos; live_buy_lots = s.live_buy_lots; live_sell_lots = s.live_sell_lots; mark2 = x }
 
 -- ---- AgentView
 abbrev pub agent_pos : AgentView → Position → AgentView
 agent_pos s x = record { pos = x; last_obs_row = s.last_obs_row; delivered_local_rejects = s.delivered_local_rejects; delivered_fills = s.delivered_fills }
 
-abbrev pub agent_last_obs_row : AgentView → MaybeU64 → AgentView
+abbrev pub agent_last_obs_row : AgentView → Option ℕ → AgentView
 agent_last_obs_row s x = record { pos = s.pos; last_obs_row = x; delivered_local_rejects = s.delivered_local_rejects; delivered_fills = s.delivered_fills }
 
 abbrev pub agent_delivered_local_rejects : AgentView → ℕ → AgentView

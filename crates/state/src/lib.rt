@@ -1,24 +1,24 @@
 // The state of the advance (state.rs of the Rust, with the gate's of gate.rs and the agent's of ledger.rs), and the events that it raises.
-// The fields and names are the Rust's. Those of one purpose are grouped, since a field that is an enum is not stored to: the small struct around it is made anew.
+// The fields and names are the Rust's. Those of one purpose are grouped.
 #![tactic(auto)]
 
-ghost use Rattle.std.specs.Prelude.{◌≡◌};
+ghost use Rattle.std.specs.Prelude.{◌≡◌, Some};
 ghost use Rattle.state.specs.Numbers.{is_terminal_phase};
 ghost use Rattle.state.specs.Numbers.{halt_number, refusal_number};
 ghost use Rattle.state.specs.With.{control_phase, control_resume, control_cursor, control_cur_row, control_status};
 ghost use Rattle.state.specs.declared.Phase.TheVariants.{BeforeMatch, AwaitDecision, Terminal};
-ghost use Rattle.numbers.specs.declared.MaybeU64.TheVariants.{Some};
+ghost use Rattle.state.specs.declared.HaltReason.TheVariants.{CounterOverflow};
 
 use account::AgentAccount;
 use book::{FillRec, ReportRec};
 use deliveries::Deliveries;
+use lists::Full;
 use msgs::Msgs;
-use numbers::MaybeU64;
 use numbers::position::Position;
 use observed::Observed;
 use orders::Orders;
 
-#[derive(Clone, Copy)]
+#[derive(Clone, Copy, PartialEq, Eq)]
 pub enum Phase {
     BeforeMatch,
     ObsQueued,
@@ -30,28 +30,32 @@ impl Phase {
     pub fn is_terminal(self) -> bool
         ensures { result ≡ is_terminal_phase self }
     {
-        match self {
-            Phase::BeforeMatch => false,
-            Phase::ObsQueued => false,
-            Phase::AwaitDecision => false,
-            Phase::Terminal => true,
-        }
+        self == Phase::Terminal
     }
 }
 
-#[derive(Clone, Copy)]
+#[derive(Clone, Copy, PartialEq, Eq)]
 pub enum HaltReason {
     LedgerOverflow,
     TimeOverflow,
     CounterOverflow,
 }
 
-impl HaltReason {
-    // The paper's number.
-    pub fn number(self) -> u64
-        ensures { result ≡ halt_number self }
-    {
-        match self {
+// A list is full: the halt 7.
+impl From<Full> for HaltReason {
+    ghost from_gives = { λ _ reason. reason ≡ CounterOverflow };
+
+    fn from(_: Full) -> HaltReason {
+        HaltReason::CounterOverflow
+    }
+}
+
+// The paper's number.
+impl From<HaltReason> for u64 {
+    ghost from_gives = { λ reason n. n ≡ halt_number reason };
+
+    fn from(reason: HaltReason) -> u64 {
+        match reason {
             HaltReason::LedgerOverflow => 5,
             HaltReason::TimeOverflow => 6,
             HaltReason::CounterOverflow => 7,
@@ -59,7 +63,7 @@ impl HaltReason {
     }
 }
 
-#[derive(Clone, Copy)]
+#[derive(Clone, Copy, PartialEq, Eq)]
 pub enum Status {
     Running,
     EndOfData,
@@ -73,76 +77,35 @@ pub struct Control {
     pub phase: Phase,
     pub resume: Phase,
     pub cursor: u64,
-    pub cur_row: MaybeU64,
+    pub cur_row: Option<u64>,
     pub step: u64,
     pub status: Status,
 }
 
-// A field that is an enum is not stored to, so each turn of the control makes it anew.
 impl Control {
-    pub fn in_phase(self, phase: Phase) -> Control
-        ensures { result ≡ control_phase self phase }
-    {
-        let resume = self.resume;
-        let cur_row = self.cur_row;
-        let status = self.status;
-        Control {
-            phase,
-            resume,
-            cursor: self.cursor,
-            cur_row,
-            step: self.step,
-            status,
-        }
-    }
-
     // The run is over.
-    pub fn ended(self, status: Status) -> Control
-        ensures { result ≡ control_status (control_phase self Terminal) status }
+    pub fn end(&mut self, status: Status)
+        ensures { self.new ≡ control_status (control_phase self.old Terminal) status }
     {
-        let resume = self.resume;
-        let cur_row = self.cur_row;
-        Control {
-            phase: Phase::Terminal,
-            resume,
-            cursor: self.cursor,
-            cur_row,
-            step: self.step,
-            status,
-        }
+        self.phase = Phase::Terminal;
+        self.status = status;
     }
 
-    // The run waits for a decision.
-    pub fn paused(self) -> Control
-        ensures { result ≡ control_phase (control_resume self self.phase) AwaitDecision }
+    // The run waits for a decision, and goes on from its phase.
+    pub fn pause(&mut self)
+        ensures { self.new ≡ control_phase (control_resume self.old self.old.phase) AwaitDecision }
     {
-        let phase = self.phase;
-        let cur_row = self.cur_row;
-        let status = self.status;
-        Control {
-            phase: Phase::AwaitDecision,
-            resume: phase,
-            cursor: self.cursor,
-            cur_row,
-            step: self.step,
-            status,
-        }
+        self.resume = self.phase;
+        self.phase = Phase::AwaitDecision;
     }
 
     // The cursor's row becomes the current one.
-    pub fn at_row(self, next: u64) -> Control
-        ensures { result ≡ control_phase (control_cursor (control_cur_row self (Some self.cursor)) next) BeforeMatch }
+    pub fn to_row(&mut self, next: u64)
+        ensures { self.new ≡ control_phase (control_cursor (control_cur_row self.old (Some self.old.cursor)) next) BeforeMatch }
     {
-        let resume = self.resume;
-        let status = self.status;
-        Control {
-            phase: Phase::BeforeMatch,
-            resume,
-            cursor: next,
-            cur_row: MaybeU64::Some(self.cursor),
-            step: self.step,
-            status,
-        }
+        self.cur_row = Some(self.cursor);
+        self.cursor = next;
+        self.phase = Phase::BeforeMatch;
     }
 }
 
@@ -168,14 +131,14 @@ pub struct GateState {
     pub venue_pos: Position,
     pub live_buy_lots: u64,
     pub live_sell_lots: u64,
-    pub mark2: MaybeU64,
+    pub mark2: Option<u64>,
 }
 
 // What the agent knows: updated by each delivery and each observation.
 #[derive(Clone, Copy)]
 pub struct AgentView {
     pub pos: Position,
-    pub last_obs_row: MaybeU64,
+    pub last_obs_row: Option<u64>,
     pub delivered_local_rejects: u64,
     pub delivered_fills: u64,
 }
@@ -221,7 +184,7 @@ pub enum KernelEvent {
 }
 
 // Why a call is refused, in the order of the paper's numbers, from 101.
-#[derive(Clone, Copy)]
+#[derive(Clone, Copy, PartialEq, Eq)]
 pub enum Refusal {
     RowWords,
     ListCount,
@@ -230,12 +193,12 @@ pub enum Refusal {
     StepLimit,
 }
 
-impl Refusal {
-    // The paper's number.
-    pub fn number(self) -> u64
-        ensures { result ≡ refusal_number self }
-    {
-        match self {
+// The paper's number.
+impl From<Refusal> for u64 {
+    ghost from_gives = { λ refusal n. n ≡ refusal_number refusal };
+
+    fn from(refusal: Refusal) -> u64 {
+        match refusal {
             Refusal::RowWords => 101,
             Refusal::ListCount => 102,
             Refusal::NotPaused => 103,

@@ -1,65 +1,56 @@
--- The fields that are left from a place on: the first of them, and those behind it. Assumes nothing.
-use Prim.Native.Nat.{ℕ, ◌+◌, ◌-◌, ◌≤◌, ◌<◌}
-use mathlib.Core.Path.{◌≡◌, refl, sym, ap, ◌∙◌}
-use mathlib.Core.Bool.{Bool, true, false}
-use mathlib.Core.List.{List, []}
+-- The fields of a line that are left: the first of them, and those behind it. Assumes nothing.
+use Rattle.std.specs.Prelude.{Option, Some, None, slice_get}
+use Rattle.std.specs.Option.{is_some}
+use Prim.Native.Nat.{ℕ}
+use mathlib.Core.Path.{◌≡◌, refl, sym}
+use mathlib.Core.Bool.{Bool, true, false, not}
+use mathlib.Core.List.{List, [], ◌∷◌}
 use native.Mathlib.Omega.{arith}
-use lib.Dec.{ltb, eqb}
-use lib.ListN.{length, take, drop, get_or}
-use lib.Seq.{length-take-le}
-use borrow.Author.Tests.{le-leb, lt-leb, ltb-true, ltb-false, ne_eqb}
-use Rattle.numbers.specs.Choice.{pick}
-use Rattle.lists.specs.Lists.{before}
-use Rattle.text.specs.Cursor.{fields_from}
-use Rattle.text.specs.Fields.{is, fields}
-use Rattle.text.proofs.PartedLaws.{before-most, parted_head, parted-some, part_here, part_more, part_last}
+use lib.Dec.{eqb}
+use lib.ListN.{length, get_or}
+use denote.Ref.{Bor}
+use borrow.Author.Tests.{ne_eqb}
+use Rattle.numbers.specs.Choice.{on_some}
+use Rattle.text.specs.declared.Fields.{Fields}
+use Rattle.text.specs.Cursor.{left}
+use Rattle.text.specs.Fields.{fields}
+use Rattle.text.proofs.PartedLaws.{parted_some}
 
--- past the end, and up to it
-pub left_none : (l : List ℕ) (at : ℕ) → length l < at → fields_from l at ≡ []
-unfolding fields_from pick
-left_none l at h = rw (lt-leb at (length l) h)
+-- what is left behind a field
+pub left_behind : (rest : Bor (List ℕ)) → left (record { rest = Some rest }) ≡ fields rest.now
+unfolding left on_some
+left_behind rest = refl
 
-pub left-parts : (l : List ℕ) (at : ℕ) → at ≤ length l → fields_from l at ≡ fields (drop at l)
-unfolding fields_from pick
-left-parts l at h = rw (le-leb at (length l) h)
+pub left_last : left (record { rest = None }) ≡ []
+unfolding left on_some
+left_last = refl
 
-module _ (l : List ℕ) (at : ℕ) (h : at ≤ length l) where
-  left : fields_from l at ≡ fields (drop at l)
-  left = left-parts l at h
+module _ (f : Fields) where
+  pub left_none : f.rest ≡ None → left f ≡ []
+  unfolding left on_some
+  left_none e = rw e
 
-  -- there is one
-  pub left-some : 0 < length (fields_from l at)
-  left-some = rw left (parted-some 32 (drop at l))
+  pub left_some : (line : Bor (List ℕ)) → f.rest ≡ Some line → left f ≡ fields line.now
+  unfolding left on_some
+  left_some line e = rw e
 
-  -- the first of them, by the place where it ends, and those behind it
-  module _ (e : ℕ) (is-end : e ≡ at + before (is 32) (drop at l)) where
-    pub left-first : take (e - at) (drop at l) ≡ get_or (fields_from l at) 0 []
-    left-first = rw left (sym (part_here 32 l at e is-end))
+  -- there is one where a rest of the line is left
+  pub left_empty : (r : Bool) → is_some f.rest ≡ not r → r ≡ eqb (length (left f)) 0
+  unfolding left on_some
+  left_empty r e = cases f.rest refl r e
+    where
+      cases : (o : Option (Bor (List ℕ))) → f.rest ≡ o → (r : Bool) → is_some f.rest ≡ not r → r ≡ eqb (length (left f)) 0
+      cases None g true e = rw g
+      cases None g false e = cc (rw g at e)
+      cases (Some line) g true e = cc (rw g at e)
+      cases (Some line) g false e = rw g (sym (ne_eqb (length (fields line.now)) 0 (λ z. omega (arith, parted_some 32 line.now))))
 
-    pub left_behind : fields_from l (e + 1) ≡ drop 1 (fields_from l at)
-    left_behind = rw left (cases (ltb e (length l)) refl)
-      where
-        cases : (t : Bool) → ltb e (length l) ≡ t → fields_from l (e + 1) ≡ drop 1 (fields (drop at l))
-        cases true z =
-            let k : e < length l = ltb-true e (length l) z in
-            let m : e + 1 ≤ length l = omega arith in
-            left-parts l (e + 1) m ∙ rw (part_more 32 l at e is-end k)
-        cases false z =
-            let k : length l ≤ e = ltb-false e (length l) z in
-            let m : length l < e + 1 = omega arith in
-            left_none l (e + 1) m ∙ rw (part_last 32 l at e is-end h k)
+-- where there is no first there is none
+pub first_none : (ls : List (List ℕ)) → None ≡ slice_get ls 0 → ls ≡ []
+first_none [] e = refl
+first_none (l ∷ ls) e = cc
 
-  -- the same by its length
-  pub left-next : (f : List ℕ) → f ≡ get_or (fields_from l at) 0 [] → fields_from l (at + length f + 1) ≡ drop 1 (fields_from l at)
-  left-next f g =
-      let m : before (is 32) (drop at l) ≤ length (drop at l) = before-most 32 (drop at l) in
-      let n : length f ≡ before (is 32) (drop at l) = rw (g, left, parted_head) (length-take-le (before (is 32) (drop at l)) (drop at l) m) in
-      left_behind (at + length f) (ap (λ (k : ℕ). at + k) n)
-
--- none is left past the end alone
-pub left_empty : (l : List ℕ) (at : ℕ) → eqb (length (fields_from l at)) 0 ≡ ltb (length l) at
-left_empty l at = cases (ltb (length l) at) refl
-  where
-    cases : (t : Bool) → ltb (length l) at ≡ t → eqb (length (fields_from l at)) 0 ≡ t
-    cases true e = rw (left_none l at (ltb-true (length l) at e))
-    cases false e = ne_eqb (length (fields_from l at)) 0 (λ z. omega (arith, left-some l at (ltb-false (length l) at e)))
+-- the first of some lists
+pub first_some : (ls : List (List ℕ)) (l : List ℕ) → Some l ≡ slice_get ls 0 → get_or ls 0 [] ≡ l
+first_some [] l e = cc
+first_some (m ∷ ls) l e = cc

@@ -1,9 +1,9 @@
 -- Fields and numbers at their limits, by computation. Assumes nothing.
+use Rattle.std.specs.Prelude.{Some, None}
 use mathlib.Core.Path.{◌≡◌, refl}
 use mathlib.Core.List.{[], ◌∷◌, map}
 use Rattle.numbers.specs.Choice.{pick}
 use Rattle.numbers.specs.Words.{fits, fitting}
-use Rattle.numbers.specs.declared.MaybeU64.TheVariants.{None, Some}
 use Rattle.text.specs.Bytes.{bytes}
 use Rattle.text.specs.Fields.{parted, fields, are_digits, value, number}
 

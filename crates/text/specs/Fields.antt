@@ -1,9 +1,9 @@
 -- "newline-ended lines, fields parted by one space, numbers of 1 to 20 digits": a text as the list of its bytes, parted at a byte, and the number that a field writes.
-use Rattle.std.specs.Prelude.{ℕ, ◌+◌, ◌-◌, ◌*◌, Bool, true, false, List, [], ◌∷◌, ltb, leb, eqb, length}
+use Rattle.std.specs.Prelude.{ℕ, ◌+◌, ◌-◌, ◌*◌, Bool, true, false, List, [], ◌∷◌, ltb, leb, eqb, length, Option, Some, None}
+use Rattle.std.specs.Borrow.{Bor}
+use Rattle.std.specs.Option.{option_map}
 use Rattle.numbers.specs.Choice.{pick}
 use Rattle.numbers.specs.Words.{fitting}
-use Rattle.numbers.specs.declared.MaybeU64.{MaybeU64}
-use Rattle.numbers.specs.declared.MaybeU64.TheVariants.{None}
 
 -- x is the byte b
 abbrev pub is : ℕ → ℕ → Bool
@@ -23,12 +23,14 @@ parted b (x ∷ l) = pick (is b x) ([] ∷ parted b l) (joined x (parted b l))
 abbrev pub fields : List ℕ → List (List ℕ)
 fields l = parted 32 l
 
--- the same bytes
-unfoldable pub same : List ℕ → List ℕ → Bool
-same [] [] = true
-same [] (y ∷ m) = false
-same (x ∷ l) [] = false
-same (x ∷ l) (y ∷ m) = pick (eqb x y) (same l m) false
+-- l parted at its first b alone: what stands before it and what stands behind it; none where there is no b
+unfoldable pub parted_once : ℕ → List ℕ → Option (List ℕ × List ℕ)
+parted_once b [] = None
+parted_once b (x ∷ l) = pick (is b x) (Some ([], l)) (option_map (λ p. (x ∷ p.0, p.1)) (parted_once b l))
+
+-- two slices, as lists
+abbrev pub pieces : Option (Bor (List ℕ) × Bor (List ℕ)) → Option (List ℕ × List ℕ)
+pieces r = option_map (λ p. (p.0.now, p.1.now)) r
 
 -- the digits 0 to 9
 abbrev pub is_digit : ℕ → Bool
@@ -44,7 +46,7 @@ value n [] = n
 value n (b ∷ l) = value (n * 10 + (b - 48)) l
 
 -- "numbers of 1 to 20 digits", within 64 bits
-unfoldable pub number : List ℕ → MaybeU64
+unfoldable pub number : List ℕ → Option ℕ
 number f =
     pick (eqb (length f) 0) None
     (pick (leb (length f) 20)

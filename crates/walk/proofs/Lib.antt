@@ -1,1 +1,1 @@
-pub mod EventsExits
+pub mod Walk

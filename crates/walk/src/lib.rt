@@ -1,145 +1,115 @@
-// The walk over the three queues: which event is next, and what an observation does.
+// The walk over the three queues, up to a time (run_events of step.rs of the Rust).
 #![tactic(auto)]
 
-ghost use Rattle.std.specs.Prelude.{◌≡◌, List, ℕ};
-ghost use Rattle.book.specs.declared.config.Config.{Config};
-ghost use Rattle.state.specs.declared.KernelState.{KernelState};
-ghost use Rattle.state.specs.With.{with_control, with_msgs, with_deliveries, with_observed};
-ghost use Rattle.rules.specs.Run.{ran_to, last};
-ghost use Rattle.rules.specs.Events.{due_by, sooner, next_msg, next_delivery, next_observation, next_of};
-ghost use Rattle.rules.specs.Phases.{phase_turn};
-ghost use Rattle.reports.specs.Log.{log_at, expected, actual};
-ghost use Rattle.walk.specs.Events.{rule_class, rule_next, with_queues, with_looked, looked_in, seen};
+ghost use Rattle.std.specs.Prelude.{◌≡◌};
+ghost use Rattle.rules.specs.Events.{due_by, sooner, next_of, pop_observation, handle, run_events};
+ghost use Rattle.reports.specs.Log.{log_of, expected, actual};
+ghost use Rattle.walk.specs.Events.{rule_class, rule_next};
 
 use book::config::Config;
-use deliveries::{Deliveries, MaybeDelivery};
-use msgs::{MaybeMsg, Msgs};
-use numbers::MaybeU64;
-use observed::{MaybeObs, Observed};
-use reports::log::emit;
-use state::{AgentView, Control, KernelEvent, Status};
+use delivery::deliver_next;
+use messages::apply_next_msg;
+use reports::Stop;
+use reports::log::Log;
+use state::{KernelEvent, KernelState, Status};
 
-// Event classes, in their order at equal times.
+// Event classes, in their order at equal times: chosen before the clock rises, as the rules do, and so apart from what they do.
 #[derive(Clone, Copy)]
-pub enum Class {
+enum Class {
     Venue,
     Delivery,
     Observation,
 }
 
-// The next event that is due, with its time.
+// An event that is due, and when.
 #[derive(Clone, Copy)]
-pub enum Next {
-    Nothing,
-    At(Class, u64),
+struct Due {
+    class: Class,
+    at_ns: u64,
 }
 
-// What a look at an observation changes of the state.
-#[derive(Clone, Copy)]
-pub struct Looked {
-    pub control: Control,
-    pub agent: AgentView,
-    pub raised: u64,
-}
-
-// An observation that has left the list pauses the run, or truncates it.
-pub fn look(
-    log: &mut [u64],
-    raised: u64,
-    cfg: Config,
-    now_ns: u64,
-    row: u64,
-    control: Control,
-    agent: AgentView,
-) -> Looked
-    ensures { ((s : KernelState) → s.clock.now_ns ≡ now_ns → actual (looked_in s result) log.new ≡ expected (log_at log.old raised) (seen cfg row (with_looked s control agent))) × ((c : Config) (rows : List ℕ) (s : KernelState) → phase_turn c rows (with_control s result.control) ≡ last (ran_to (with_control s result.control))) }
+#[tactic(auto, unfolding(rules::specs::Events::due_by, numbers::specs::Choice::pick))]
+fn due_by(limit: u64, class: Class, at_ns: u64) -> Option<Due>
+    ensures { rule_next result ≡ due_by limit (rule_class class) at_ns }
 {
-    if cfg.s_max <= control.step {
-        let over = control.ended(Status::Truncated);
-        return Looked {
-            control: over,
-            agent,
-            raised,
-        };
-    }
-    let n = emit(log, raised, KernelEvent::Observed { row, at_ns: now_ns });
-    let paused = control.paused();
-    let pos = agent.pos;
-    let view = AgentView {
-        pos,
-        last_obs_row: MaybeU64::Some(row),
-        delivered_local_rejects: agent.delivered_local_rejects,
-        delivered_fills: agent.delivered_fills,
-    };
-    Looked {
-        control: paused,
-        agent: view,
-        raised: n,
-    }
-}
-
-fn due_by(limit: u64, class: Class, time: u64) -> Next
-    ensures { rule_next result ≡ due_by limit (rule_class class) time }
-{
-    if time <= limit {
-        return Next::At(class, time);
-    }
-    Next::Nothing
+    (at_ns <= limit).then_some(Due { class, at_ns })
 }
 
 // The earlier of two, at equal times the first.
-fn sooner(a: Next, b: Next) -> Next
+#[tactic(auto, unfolding(rules::specs::Events::sooner, numbers::specs::Choice::pick))]
+fn sooner(a: Option<Due>, b: Option<Due>) -> Option<Due>
     ensures { rule_next result ≡ sooner (rule_next a) (rule_next b) }
 {
-    let Next::At(_, t) = a else {
-        return b;
+    let (Some(first), Some(second)) = (a, b) else {
+        return a.or(b);
     };
-    let Next::At(_, u) = b else {
-        return a;
+    if first.at_ns <= second.at_ns { a } else { b }
+}
+
+// The least time at or below the limit, of the first entries of the three lists.
+#[tactic(auto, unfolding(rules::specs::Events::next_of, rules::specs::Events::next_msg, rules::specs::Events::next_delivery, rules::specs::Events::next_observation, numbers::specs::Choice::on_some))]
+fn next_of(limit: u64, s: &KernelState) -> Option<Due>
+    ensures { rule_next result ≡ next_of limit s.now }
+{
+    let msg = s
+        .msgs
+        .get(0)
+        .and_then(|m| due_by(limit, Class::Venue, m.eff_ns));
+    let delivery = s
+        .deliveries
+        .get(0)
+        .and_then(|d| due_by(limit, Class::Delivery, d.at_ns));
+    let observation = s
+        .observed
+        .get(0)
+        .and_then(|o| due_by(limit, Class::Observation, o.ready_ns));
+    sooner(msg, sooner(delivery, observation))
+}
+
+// An observation pauses the run. At the last step it is removed unseen, and the run is truncated.
+fn pop_observation(cfg: &Config, s: &mut KernelState, log: &mut Log) -> Result<(), Stop>
+    ensures { actual result s.new (log_of log.new) ≡ expected (log_of log.old) (pop_observation cfg.now s.old) }
+{
+    let Some(entry) = s.observed.pop_front() else {
+        return Ok(());
     };
-    if t <= u {
-        return a;
+    if s.control.step >= cfg.s_max {
+        s.control.end(Status::Truncated);
+        return Err(Stop::Left);
     }
-    b
+    s.agent.last_obs_row = Some(entry.row);
+    log.emit(KernelEvent::Observed {
+        row: entry.row,
+        at_ns: s.clock.now_ns,
+    });
+    s.control.pause();
+    Err(Stop::Left)
 }
 
-fn next_msg(limit: u64, msgs: Msgs) -> Next
-    ensures { (s : KernelState) → rule_next result ≡ next_msg limit (with_msgs s msgs) }
+// What an event does, the clock at its time.
+fn handle(cfg: &Config, class: Class, s: &mut KernelState, log: &mut Log) -> Result<(), Stop>
+    ensures { actual result s.new (log_of log.new) ≡ expected (log_of log.old) (handle cfg.now (rule_class class) s.old) }
 {
-    let first = msgs.get(0);
-    let MaybeMsg::Some(m) = first else {
-        return Next::Nothing;
+    match class {
+        Class::Venue => apply_next_msg(cfg, s, log)?,
+        Class::Delivery => deliver_next(s, log)?,
+        Class::Observation => pop_observation(cfg, s, log)?,
+    }
+    Ok(())
+}
+
+// Every event up to the limit, the least time first, while each runs to its end.
+pub fn run_events(cfg: &Config, limit: u64, s: &mut KernelState, log: &mut Log) -> Result<(), Stop>
+    ensures { actual result s.new (log_of log.new) ≡ expected (log_of log.old) (run_events cfg.now limit s.old) }
+{
+    let outcome = loop {
+        let Some(due) = next_of(limit, s) else {
+            break Ok(());
+        };
+        s.clock.now_ns = due.at_ns.max(s.clock.now_ns);
+        if let Err(stop) = handle(cfg, due.class, s, log) {
+            break Err(stop);
+        }
     };
-    due_by(limit, Class::Venue, m.eff_ns)
-}
-
-fn next_delivery(limit: u64, deliveries: Deliveries) -> Next
-    ensures { (s : KernelState) → rule_next result ≡ next_delivery limit (with_deliveries s deliveries) }
-{
-    let first = deliveries.get(0);
-    let MaybeDelivery::Some(d) = first else {
-        return Next::Nothing;
-    };
-    due_by(limit, Class::Delivery, d.at_ns)
-}
-
-fn next_observation(limit: u64, observed: Observed) -> Next
-    ensures { (s : KernelState) → rule_next result ≡ next_observation limit (with_observed s observed) }
-{
-    let first = observed.get(0);
-    let MaybeObs::Some(e) = first else {
-        return Next::Nothing;
-    };
-    due_by(limit, Class::Observation, e.ready_ns)
-}
-
-// The least time at or below the limit.
-pub fn next_of(limit: u64, msgs: Msgs, deliveries: Deliveries, observed: Observed) -> Next
-    ensures { (s : KernelState) → rule_next result ≡ next_of limit (with_queues s msgs deliveries observed) }
-{
-    let m = next_msg(limit, msgs);
-    let d = next_delivery(limit, deliveries);
-    let o = next_observation(limit, observed);
-    let later = sooner(d, o);
-    sooner(m, later)
+    outcome
 }

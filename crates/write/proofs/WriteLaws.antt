@@ -1,17 +1,20 @@
 -- Text written piece by piece is the text written whole; the digits of a number. Assumes nothing.
-use Prim.Native.Nat.{ℕ, zero, suc, ◌+◌, ◌-◌, ◌*◌, ◌/◌, ◌≤◌, ◌<◌}
+use Prim.Native.Nat.{ℕ, zero, suc, ◌+◌, ◌-◌, ◌*◌, ◌/◌, ◌≤◌, ◌<◌, min}
 use mathlib.Core.Path.{◌≡◌, refl, sym, ap, ◌∙◌}
 use mathlib.Core.Bool.{Bool, true, false}
-use mathlib.Core.List.{List, [], ◌∷◌, ◌++◌, append_assoc}
+use mathlib.Core.List.{List, [], ◌∷◌, ◌++◌, append_assoc, append-nil}
 use native.Mathlib.Nat.{not-suc-le-zero, le_of_suc-le-suc}
 use native.Mathlib.Numerals.{add-one}
 use native.Mathlib.Omega.{arith}
 use lib.Dec.{ltb}
-use lib.ListN.{length, take, drop, get_or, set, drop_of_length-le, length-drop}
-use lib.Seq.{take_all, drop-cons}
-use borrow.Author.Tests.{lt-ltb, le-ltb, ltb-false}
+use lib.ListN.{length, replicate, take, drop, set, drop_of_length-le, length-append, length-drop, length-set, length-take}
+use Rattle.std.proofs.lemmas.List.{take-append-drop}
+use lib.Seq.{take_all, drop-drop, length-take-le, sets, sets-eq}
+use borrow.Rule.Slice.PartMut.{put_mid}
+use borrow.Author.Tests.{lt-ltb, le-ltb, ltb-true, ltb-false}
 use Rattle.numbers.specs.Choice.{pick}
-use Rattle.write.specs.Write.{Text, text_at, put, texted, digit, digits, decimal}
+use Rattle.write.specs.declared.Writer.{Writer}
+use Rattle.write.specs.Write.{Text, text_at, put, texted, text_of, with_text, written, digit, digits, decimal}
 
 -- ---- a byte
 pub put_in : (bs : List ℕ) (n b : ℕ) → n < length bs → text_at (set bs n b) (n + 1) ≡ texted (text_at bs n) (b ∷ [])
@@ -28,30 +31,62 @@ unfolding texted
 texted-append t [] b = refl
 texted-append t (x ∷ a) b = texted-append (put t x) a b
 
--- a piece that was written behind another
-pub then_piece : (t u v : Text) (a b : List ℕ) → u ≡ texted t a → v ≡ texted u b → v ≡ texted t (a ++ b)
-then_piece t u v a b e f = rw (texted-append, ← e) f
-
--- one byte more of a piece
-pub text-turn : (t u v : Text) (s : List ℕ) (i : ℕ) → i < length s → u ≡ texted v (get_or s i 0 ∷ []) → t ≡ texted v (drop i s) → t ≡ texted u (drop (i + 1) s)
+pub written_none : (w : Writer) → written w [] ≡ w
 unfolding texted
-text-turn t u v s i h e f = rw (add-one, e) (rw (drop-cons s i 0 h) at f)
+written_none w = refl
 
-pub text_end : (t v : Text) (s : List ℕ) (i : ℕ) → length s ≤ i → t ≡ texted v (drop i s) → v ≡ t
+pub written_append : (w : Writer) (a b : List ℕ) → written (written w a) b ≡ written w (a ++ b)
+written_append w a b = ap (with_text w) (sym (texted-append (text_of w) a b))
+
+all_written : (t : Text) → texted t [] ≡ t
 unfolding texted
-text_end t v s i h f = sym (rw (drop_of_length-le s h) at f)
+all_written t = refl
 
--- ---- a piece for which there is room, from place n on
-pub all_begin : (bs : List ℕ) (n : ℕ) (s : List ℕ) → texted (text_at bs n) s ≡ texted (text_at bs (n + 0)) (drop 0 s)
-all_begin bs n s =
-    let z : n + 0 ≡ n = omega arith in
-    rw z
+-- ---- a piece of which n bytes have room, from place k on
+pub past : (bs : List ℕ) (k : ℕ) (s : List ℕ) → length bs ≤ k → texted (text_at bs k) s ≡ text_at bs k
+unfolding texted put pick
+past bs k [] h = refl
+past bs k (b ∷ s) h = rw (le-ltb k (length bs) h) (past bs k s h)
 
-pub all-turn : (t : Text) (bs s : List ℕ) (n i : ℕ) → i < length s → n + i < length bs → t ≡ texted (text_at bs (n + i)) (drop i s)
-    → t ≡ texted (text_at (set bs (n + i) (get_or s i 0)) (n + (i + 1))) (drop (i + 1) s)
-all-turn t bs s n i h k f =
-    let z : n + (i + 1) ≡ n + i + 1 = omega arith in
-    rw z (text-turn t _ (text_at bs (n + i)) s i h (put_in bs (n + i) (get_or s i 0) k) f)
+fits : (bs : List ℕ) (k : ℕ) (s : List ℕ) → k + length s ≤ length bs → texted (text_at bs k) s ≡ text_at (sets bs k s) (k + length s)
+unfolding texted put pick
+fits bs k [] h = ap (text_at bs) (omega arith)
+fits bs k (b ∷ s) h =
+    let m : suc k + length s ≤ length (set bs k b) = rw length-set (omega arith) in
+    rw (lt-ltb k (length bs) (omega arith), add-one) (fits (set bs k b) (suc k) s m ∙ ap (text_at (sets bs k (b ∷ s))) (omega arith))
+
+-- the bytes before place k stand, then comes the text, then the bytes behind it
+pub texted-whole : (s bs : List ℕ) (k : ℕ) → k + length s ≤ length bs → texted (text_at bs k) s ≡ text_at (take k bs ++ s ++ drop (k + length s) bs) (k + length s)
+texted-whole s bs k h = fits bs k s h ∙ ap (λ (m : List ℕ). text_at m (k + length s)) (sets-eq s bs k h)
+
+module _ (bs : List ℕ) (k n : ℕ) (s part : List ℕ) (h : k ≤ length bs) (e : n ≡ min (length s) (length bs - k)) (f : part ≡ take n s) where
+  abbrev room : List ℕ
+  room = take k bs ++ part ++ drop (k + n) bs
+
+  size : length part ≡ n
+  size = rw f (length-take-le n s (omega arith))
+
+  front : texted (text_at bs k) part ≡ text_at room (k + n)
+  front =
+      let m : k + length part ≤ length bs = omega (arith, size) in
+      rw size at (texted-whole part bs k m)
+
+  rest : texted (text_at room (k + n)) (drop n s) ≡ text_at room (k + n)
+  rest = cases (ltb n (length s)) refl
+    where
+      cases : (t : Bool) → ltb n (length s) ≡ t → texted (text_at room (k + n)) (drop n s) ≡ text_at room (k + n)
+      cases true g =
+          let m : n < length s = ltb-true n (length s) g in
+          past room (k + n) (drop n s) (simp (length-append, length-drop, length-take) (omega (arith, size)))
+      cases false g = rw (drop_of_length-le s (ltb-false n (length s) g)) (all_written (text_at room (k + n)))
+
+  placed : put_mid k (k + n - k) bs part ≡ room
+  placed =
+      let z : k + n - k ≡ n = omega arith in
+      rw (z, drop-drop, append_assoc)
+
+  pub put_room : text_at (put_mid k (k + n - k) bs part) (k + n) ≡ texted (text_at bs k) s
+  put_room = rw placed (sym (ap (texted (text_at bs k)) (sym (take-append-drop n s)) ∙ texted-append (text_at bs k) (take n s) (drop n s) ∙ rw (← f, front) rest))
 
 -- ---- the digits of a number, at any fuel above it
 digits-fuel : (k m n : ℕ) → n < k → n < m → digits k n ≡ digits m n
@@ -80,12 +115,6 @@ unfoldable pub tens : ℕ → ℕ
 tens zero = 1
 tens (suc k) = 10 * tens k
 
--- at the last place there is one digit
-pub more_places : (i left : ℕ) → 10 ≤ left → left < tens (suc i) → 0 < i
-unfolding tens
-more_places zero left h k = omega arith
-more_places (suc i) left h k = omega arith
-
 pub word-tens : (n : ℕ) → n < 18446744073709551616 → n < tens 20
 unfolding tens
 word-tens n h = omega arith
@@ -97,26 +126,36 @@ set-drop (x ∷ row) zero v h = refl
 set-drop (x ∷ row) (suc i) v h = set-drop row i v (le_of_suc-le-suc h)
 
 -- of n, the digits of `left` are still to be put, up to place i
-module _ (n left i : ℕ) (row : List ℕ) (e : decimal n ≡ decimal left ++ drop (suc i) row) (h : i < length row) where
-  pub digit-turn : 10 ≤ left → 0 < i → decimal n ≡ decimal (left / 10) ++ drop (suc (i - 1)) (set row i (digit left))
-  digit-turn k p =
-      let z : suc (i - 1) ≡ i = omega arith in
-      rw (z, set-drop row i (digit left) h) (e ∙ rw (decimal-more left k, append_assoc))
+pub record Putting (n left i : ℕ) (row : List ℕ) : Type 0 where
+  pub within : i ≤ 19
+  pub size : length row ≡ 20
+  pub small : left < tens (suc i)
+  pub digits : decimal n ≡ decimal left ++ drop (suc i) row
 
-  pub digit-last : left < 10 → (d : ℕ) → d ≡ digit left → drop i (set row i d) ≡ decimal n
-  digit-last k d f = rw (set-drop row i d h, e, ← decimal-one left k, f)
+pub put_begin : (n : ℕ) → n < 18446744073709551616 → Putting n n 19 (replicate 20 0)
+put_begin n h = record { within = omega arith; size = refl; small = word-tens n h; digits = rw append-nil }
 
-fewer : (i left : ℕ) → left < tens (suc i) → left / 10 < tens i
-unfolding tens
-fewer i left h = omega arith
+module _ (n left : ℕ) (row : List ℕ) where
+  -- one digit is put, and more are left
+  pub put_turn : (i : ℕ) → Putting n left i row → 10 ≤ left → (0 < i) × Putting n (left / 10) (i - 1) (set row i (digit left))
+  unfolding tens
+  put_turn zero p h = absurd (omega (arith, p.small))
+  put_turn (suc i) p h =
+      let m : suc i < length row = omega (arith, p.within, p.size) in
+      let z : suc i - 1 ≡ i = omega arith in (
+        omega arith,
+        rw z (record {
+          within = omega (arith, p.within);
+          size = rw length-set p.size;
+          small = omega (arith, p.small);
+          digits = rw (set-drop row (suc i) (digit left) m) (p.digits ∙ rw (decimal-more left h, append_assoc));
+        }),
+      )
 
-pub fewer-tens : (i left : ℕ) → left < tens (suc i) → 0 < i → left / 10 < tens (suc (i - 1))
-fewer-tens i left h p =
-    let z : suc (i - 1) ≡ i = omega arith in
-    rw z (fewer i left h)
-
--- they are all that stands there
-pub number_put : (t u : Text) (n first : ℕ) (row : List ℕ) → length row ≡ 20 → drop first row ≡ decimal n → u ≡ texted t (take (20 - first) (drop first row)) → u ≡ texted t (decimal n)
-number_put t u n first row h e f =
-    let z : length (drop first row) ≤ 20 - first = rw (length-drop, h) (omega arith) in
-    rw (take_all (20 - first) (drop first row) z, e) at f
+  -- the last digit is put
+  pub put_last : (i : ℕ) → Putting n left i row → left < 10 → take (20 - i) (drop i (set row i (48 + left))) ≡ decimal n
+  put_last i p h =
+      let m : i < length row = omega (arith, p.within, p.size) in
+      let z : 48 + left ≡ digit left = omega arith in
+      let all : take (20 - i) (drop i (set row i (digit left))) ≡ drop i (set row i (digit left)) = take_all (20 - i) _ (rw (length-drop, length-set, p.size) (omega arith)) in
+      rw (z, all, set-drop row i (digit left) m, p.digits, ← decimal-one left h)

@@ -1,6 +1,7 @@
 -- Text written into a lent row of bytes, and numbers as text.
 use Rattle.std.specs.Prelude.{ℕ, zero, suc, ◌+◌, ◌/◌, ◌%◌, List, [], ◌∷◌, ◌++◌, ltb, ℤ, pos, negsuc, length, set}
 use Rattle.numbers.specs.Choice.{pick}
+use Rattle.write.specs.declared.Writer.{Writer}
 
 -- the bytes, and the place of the next one
 pub record Text : Type 0 where
@@ -17,6 +18,18 @@ put t b = pick (ltb t.next (length t.bytes)) (text_at (set t.bytes t.next b) (t.
 unfoldable pub texted : Text → List ℕ → Text
 texted t [] = t
 texted t (b ∷ l) = texted (put t b) l
+
+-- what a writer has written
+abbrev pub text_of : Writer → Text
+text_of w = text_at w.out.now w.len
+
+-- a writer that has written t, to the same reference
+abbrev pub with_text : Writer → Text → Writer
+with_text w t = record { out = record w.out { now = t.bytes }; len = t.next }
+
+-- a writer with these bytes behind its own
+abbrev pub written : Writer → List ℕ → Writer
+written w l = with_text w (texted (text_of w) l)
 
 -- the last digit
 abbrev pub digit : ℕ → ℕ

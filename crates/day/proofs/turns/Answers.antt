@@ -3,18 +3,17 @@ use Rattle.day.proofs.TurnExits.{ends, goes_on_lem, prints}
 use Rattle.day.proofs.turns.Goals as goal
 
 pub returns-then-is_terminal : goal.returns-then-is_terminal
-returns-then-is_terminal c = let o = ends c.args.cfg c.args.rows.now c.args.state c.args.filled _ _ c.run-a.result _ c.run-a.ensures _ _ c.put_call-length.ensures _ c.add_filled-sum.ensures
+returns-then-is_terminal c = let o = ends c.args.cfg.now c.args.rows.now c.args.state c.args.filled _ _ c.run-a.result _ c.run-a.ensures _ _ c.put_call-length.ensures _ c.add_filled-filled.ensures
     c.is_terminal.result c.is_terminal.ensures c.if-is_terminal.true in record {
       whole_outcome = o;
-      prints_turns = prints c.args.cfg c.args.rows.now c.args.state c.args.filled _ _ c.run-a.result _ c.run-a.ensures _ _ c.put_call-length.ensures _ c.add_filled-sum.ensures
+      prints_turns = prints c.args.cfg.now c.args.rows.now c.args.state c.args.filled _ _ c.run-a.result _ c.run-a.ensures _ _ c.put_call-length.ensures _ c.add_filled-filled.ensures
           _ o (λ i. (c.slice_known-3-1.given i).fits) c.run-a.auto.log;
     }
 
 pub returns : goal.returns
-returns c = let o = goes_on_lem c.args.cfg c.args.rows.now c.args.state c.args.filled _ _ c.run-a.result _ c.run-a.ensures _ _ c.put_call-length.ensures _ c.add_filled-sum.ensures
-    c.is_terminal.result c.is_terminal.ensures c.if-is_terminal.false c.pass-p.result c.pass-p.ensures c.number-refusal.result
-    c.number-refusal.ensures in record {
+returns c = let o = goes_on_lem c.args.cfg.now c.args.rows.now c.args.state c.args.filled _ _ c.run-a.result _ c.run-a.ensures _ _ c.put_call-length.ensures _ c.add_filled-filled.ensures
+    c.is_terminal.result c.is_terminal.ensures c.if-is_terminal.false c.pass-passed.result c.pass-passed.ensures c.is_ok.result c.is_ok.ensures.value in record {
       whole_outcome = o;
-      prints_turns = prints c.args.cfg c.args.rows.now c.args.state c.args.filled _ _ c.run-a.result _ c.run-a.ensures _ _ c.put_call-length.ensures _ c.add_filled-sum.ensures
+      prints_turns = prints c.args.cfg.now c.args.rows.now c.args.state c.args.filled _ _ c.run-a.result _ c.run-a.ensures _ _ c.put_call-length.ensures _ c.add_filled-filled.ensures
           _ o (λ i. (c.slice_known-3-1.given i).fits) c.run-a.auto.log;
     }

@@ -1,17 +1,14 @@
 -- `deeds::await_marked` meets its contract. Assumes nothing.
-use native.Mathlib.Omega.{arith}
-use Rattle.deeds.specs.Deeds.{awaited_in}
-use Rattle.deeds.proofs.StepExits.{answered, follow_stop, await_unmarked, await-full, await_in}
+use Rattle.std.specs.Prelude.{Ok, Err}
+use Rattle.reports.proofs.Then.{hands_on_quiet}
+use Rattle.deeds.proofs.Deeds.{awaited, unmarked}
 use Rattle.deeds.proofs.await_marked.Goals as goal
 
-pub returns-in_default : goal.returns-in_default
-returns-in_default c = λ s l a w n e. answered (awaited_in s) w c.keep_orders.ensures (follow_stop l a w s c.args.told e _ c.in_default.not-Ran)
+pub returns-in_err-insert_by_id : goal.returns-in_err-insert_by_id
+returns-in_err-insert_by_id c = hands_on_quiet _ c.from_residual.ensures (awaited _ _ (Err _) c.if-order.true c.in_err-insert_by_id.ensures)
 
-pub returns-then-not-order : goal.returns-then-not-order
-returns-then-not-order c = λ s l a w n e. answered (awaited_in s) w c.keep_orders-then-not-order.ensures (await_unmarked l a w s c.args.told e c.in-Ran.is c.args.order c.if-not-order.true)
+pub returns-in_ok-insert_by_id : goal.returns-in_ok-insert_by_id
+returns-in_ok-insert_by_id c = awaited _ _ (Ok tt) c.if-order.true c.in_ok-insert_by_id.ensures
 
-pub returns-then-awaiting-ge-CAPACITY : goal.returns-then-awaiting-ge-CAPACITY
-returns-then-awaiting-ge-CAPACITY c = λ s l a w n e. answered (awaited_in s) w c.full_orders.ensures (await-full l a w s c.args.told e c.in-Ran.is c.args.order c.if-not-order.false (omega (arith, n)))
-
-pub returns : goal.returns
-returns c = λ s l a w n e. await_in l a w s c.args.told e c.in-Ran.is c.args.order c.if-not-order.false (omega (arith, n))
+pub returns-else-order : goal.returns-else-order
+returns-else-order c = unmarked _ _ c.if-order.false

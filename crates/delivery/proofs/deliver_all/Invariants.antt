@@ -1,15 +1,9 @@
--- `delivery::deliver_all` meets its contract: what is left of the deliveries gives what the whole gives. Assumes nothing.
+-- `delivery::deliver_all` meets its contract: the deliveries that are left give what all of them give. Assumes nothing.
+use Prim.Native.Nat.{◌-◌}
 use mathlib.Core.Path.{◌≡◌}
-use lib.ListN.{length}
-use Rattle.state.specs.declared.KernelState.{KernelState}
 use Rattle.rules.specs.Delivery.{deliver_all}
-use Rattle.reports.specs.Log.{log_at, expected}
-use Rattle.delivery.specs.Delivery.{with_emptied}
+use Rattle.reports.specs.Log.{log_of, expected}
 use Rattle.delivery.proofs.deliver_all.Given as goal
 
-abbrev pub invariant-loop-delivery : goal.invariant-loop-delivery
-invariant-loop-delivery l = (length l.log ≡ length l.initial.log)
-    × ((s : KernelState) → expected (log_at l.log l.n) (deliver_all l.d.count (with_emptied s l.d l.g l.a)) ≡ expected (log_at l.initial.log l.initial.n) (deliver_all l.initial.d.count (with_emptied s l.initial.d l.initial.g l.initial.a)))
-
-abbrev pub decreases-loop-delivery : goal.decreases-loop-delivery
-decreases-loop-delivery l = l.d.count
+abbrev pub invariant-loop : goal.invariant-loop
+invariant-loop l = expected (log_of l.log) (deliver_all (l.end - l.counter) l.s) ≡ expected (log_of l.initial.log) (deliver_all l.end l.initial.s)

@@ -1,23 +1,12 @@
--- `delivery::end_of_data` meets its contract, by the laws of `DeliveryExits`. Assumes nothing.
-use mathlib.Core.Path.{◌∙◌}
-use Rattle.delivery.proofs.DeliveryExits.{end_stops, end_closes}
+-- `delivery::end_of_data` meets its contract. Assumes nothing.
+use Rattle.rules.specs.Delivery.{end_of_data}
+use Rattle.reports.proofs.Then.{hands_stop, then_on, then_stop}
 use Rattle.delivery.proofs.end_of_data.Goals as goal
 
-pub shape_of-log-in_default : goal.shape_of-log-in_default
-shape_of-log-in_default c = c.deliver_all-h.auto.log
-
-pub returns-in_default : goal.returns-in_default
-returns-in_default c = (
-  end_stops _ _ c.args.raised c.args.control c.args.venue c.args.msgs c.args.deliveries c.args.observed c.args.agent c.args.account c.deliver_all-h.result c.deliver_all-h.ensures c.in_default.not-Ran,
-  λ p. p,
-)
-
-pub shape_of-log : goal.shape_of-log
-shape_of-log c = c.close_data-c.auto.log ∙ c.deliver_all-h.auto.log
+pub returns-in_err-deliver_all : goal.returns-in_err-deliver_all
+unfolding end_of_data
+returns-in_err-deliver_all c = hands_stop c.from_residual.ensures (then_stop _ _ _ c.in_err-deliver_all.ensures)
 
 pub returns : goal.returns
-returns c = (
-  end_closes _ _ c.args.raised c.args.control c.args.venue c.args.msgs c.args.deliveries c.args.observed c.args.agent c.args.account c.deliver_all-h.result c.deliver_all-h.ensures
-      c.in-Ran.is _ c.close_data-c.result c.close_data-c.ensures.0,
-  c.close_data-c.ensures.1,
-)
+unfolding end_of_data
+returns c = then_on _ _ _ c.in_ok-deliver_all.ensures c.close_data.ensures

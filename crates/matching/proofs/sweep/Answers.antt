@@ -1,33 +1,24 @@
--- `matching::sweep` meets its contract, by the laws of `MatchingExits`: from each look on, the rest of the pass gives what the whole gives. Assumes nothing.
-use Rattle.std.proofs.Common.{◌≡◌, ◌+◌, ◌-◌, ◌∙◌, arith, rules}
-use Rattle.matching.proofs.MatchingExits.{sweep-past, sweep-on, sweep_stop, sweep_end, sweep-over}
+-- `matching::sweep` meets its contract: from each look on, the rest of the sweep gives what the whole gives. Assumes nothing.
+use Rattle.std.proofs.Common.{◌∙◌, arith}
+use Rattle.reports.proofs.Then.{hands_on_quiet}
+use Rattle.matching.proofs.Passes.{all_swept, sweep_end, look_past, look_on, look_stop}
 use Rattle.matching.proofs.sweep.Goals as goal
+use Rattle.matching.proofs.sweep.Goals.{then-terminal_at+in_ok-leave, else-terminal_at}
 
-pub returns-then-looks-gt-CAPACITY : goal.returns-then-looks-gt-CAPACITY
-returns-then-looks-gt-CAPACITY c = sweep-over c.args.orders c.args.msgs c.args.awaiting c.args.orders.count 0 (omega arith)
+pub loop-look-init : goal.loop-look-init
+loop-look-init c = (omega arith, all_swept _ _ c.min-looks.ensures)
 
-pub loop-k-init : goal.loop-k-init
-loop-k-init c = let z : c.args.orders.count - 0 ≡ c.args.orders.count = omega arith in (omega arith, omega arith, λ s n w. rw z)
+pub returns-in_err-leave : goal.returns-in_err-leave
+returns-in_err-leave c =
+    hands_on_quiet _ c.from_residual.ensures (look_stop _ _ _ _ c.loop-look-test.true c.if-terminal_at.ensures c.in_err-leave.ensures ∙ c.loop-look.invariant.1)
 
-pub returns-in_default : goal.returns-in_default
-returns-in_default c = λ s n w. sweep_stop c.loop-k.place c.loop-k.o c.loop-k.m c.loop-k.a (c.args.orders.count - c.loop-k.k) (c.args.orders.count - (c.loop-k.k + 1)) (omega arith) _
-    c.terminal_at.ensures c.if-terminal_at.true c.leave-left.result c.leave-left.ensures c.in_default.not-Ran s n w ∙ c.loop-k.invariant.2 s n w
-
-pub loop-k-preserved-then-terminal_at : goal.loop-k-preserved-then-terminal_at
-loop-k-preserved-then-terminal_at c = (
-  search rules,
-  search rules,
-  λ s n w. sweep-on c.loop-k.place c.loop-k.o c.loop-k.m c.loop-k.a (c.args.orders.count - c.loop-k.k) (c.args.orders.count - (c.loop-k.k + 1))
-      (omega arith) _ c.terminal_at.ensures c.if-terminal_at.true c.leave-left.result c.leave-left.ensures c.in-Ran.is s n w ∙ c.loop-k.invariant.2 s n w,
-)
-
-pub loop-k-preserved : goal.loop-k-preserved
-loop-k-preserved c = (
-  search rules,
-  search rules,
-  λ s n w. sweep-past c.loop-k.place c.loop-k.o c.loop-k.m c.loop-k.a (c.args.orders.count - c.loop-k.k) (c.args.orders.count - (c.loop-k.k + 1))
-      (omega arith) _ c.terminal_at.ensures c.if-terminal_at.false s n w ∙ c.loop-k.invariant.2 s n w,
-)
+pub loop-look-preserved : goal.loop-look-preserved
+loop-look-preserved c = elim c.if-terminal_at.branch [
+  | then-terminal_at+in_ok-leave w ↦
+      (rw w.place-is (omega (arith, c.loop-look.invariant.0)), rw (w.place-is, w.s-is) (look_on _ _ _ _ c.loop-look-test.true w.if-terminal_at.ensures w.in_ok-leave.ensures ∙ c.loop-look.invariant.1))
+  | else-terminal_at w ↦
+      (rw w.place-is (omega (arith, c.loop-look.invariant.0)), rw (w.place-is, w.s-is) (look_past _ _ _ _ c.loop-look-test.true w.if-terminal_at.ensures ∙ c.loop-look.invariant.1))
+]
 
 pub returns : goal.returns
-returns c = λ s n w. sweep_end c.loop-k.place c.loop-k.o c.loop-k.m c.loop-k.a (c.args.orders.count - c.loop-k.k) (omega arith) s n w ∙ c.loop-k.invariant.2 s n w
+returns c = sweep_end _ _ _ _ c.loop-look-test.false ∙ c.loop-look.invariant.1

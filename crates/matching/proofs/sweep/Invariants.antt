@@ -1,14 +1,7 @@
--- `matching::sweep` meets its contract, by the laws of `MatchingExits`: from each look on, the rest of the pass gives what the whole gives. Assumes nothing.
-use Rattle.std.proofs.Common.{◌≡◌, ℕ, ◌-◌, ◌≤◌, List}
-use Rattle.state.specs.declared.KernelState.{KernelState}
-use Rattle.rules.specs.Matching.{sweep_from}
-use Rattle.reports.specs.Log.{log_at, expected}
-use Rattle.matching.specs.Matching.{with_swept}
+-- `matching::sweep` meets its contract: from each look on, the rest of the sweep gives what the whole gives. Assumes nothing.
+use Rattle.std.proofs.Common.{◌≡◌, ◌-◌, ◌≤◌}
+use Rattle.rules.specs.Matching.{sweep_from, sweep}
 use Rattle.matching.proofs.sweep.Given as goal
 
-abbrev pub invariant-loop-k : goal.invariant-loop-k
-invariant-loop-k l = (l.k ≤ l.looks) × (l.place ≤ l.k)
-    × ((s : KernelState) (n : ℕ) (w : List ℕ) → expected (log_at w n) (sweep_from (l.looks - l.k) l.place (with_swept s l.o l.m l.a)) ≡ expected (log_at w n) (sweep_from l.looks 0 (with_swept s l.initial.o l.initial.m l.initial.a)))
-
-abbrev pub decreases-loop-k : goal.decreases-loop-k
-decreases-loop-k l = l.looks - l.k
+abbrev pub invariant-loop-look : goal.invariant-loop-look
+invariant-loop-look l = (l.place ≤ l._look) × (sweep_from (l.looks - l._look) l.place l.s ≡ sweep l.initial.s)

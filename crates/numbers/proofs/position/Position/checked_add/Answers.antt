@@ -1,27 +1,18 @@
 -- `numbers::position::Position::checked_add` meets its contract. Assumes nothing.
-use Rattle.std.proofs.Common.{arith}
+use Rattle.std.proofs.Common.{rules, ◌∙◌, ◌+ℤ◌}
 use Rattle.numbers.specs.Position.{raised_by}
-use Rattle.numbers.proofs.Signed.{up, moved_by, too_many, bound-fits, move_fits, moved_to, moved_out}
+use Rattle.numbers.proofs.Moves.{no_count, moves_out, moves_to}
 use Rattle.numbers.proofs.position.Position.checked_add.Goals as goal
 
-pub returns-then-lots-gt-MOST_LOTS : goal.returns-then-lots-gt-MOST_LOTS
-unfolding raised_by moved_by
-returns-then-lots-gt-MOST_LOTS c = too_many up c.args.self.lots c.args.lots (omega arith)
+pub returns-in_err-bought : goal.returns-in_err-bought
+unfolding raised_by
+returns-in_err-bought c = c.from_residual.ensures ∙ no_count _ _ _ c.try_from.ensures c.in_err-bought.ensures.value
 
-pub overflow_sub-n : goal.overflow_sub-n
-overflow_sub-n c = bound-fits up c.args.self.lots c.args.lots
-    (record { sfits = c.struct_told-1.given.0.1 }) c.if-lots-gt-MOST_LOTS.false
-
-pub returns-then-n-at : goal.returns-then-n-at
-unfolding raised_by moved_by
-returns-then-n-at c = moved_out up c.args.self.lots c.args.lots
-    (record { sfits = c.struct_told-1.given.0.1 }) c.if-lots-gt-MOST_LOTS.false c.if-n-at.true
-
-pub overflow_add-to : goal.overflow_add-to
-overflow_add-to c = move_fits up c.args.self.lots c.args.lots
-    (record { sfits = c.struct_told-1.given.0.1 }) c.if-lots-gt-MOST_LOTS.false c.if-n-at.false
+pub returns-in_err-lots : goal.returns-in_err-lots
+unfolding raised_by
+returns-in_err-lots c = c.from_residual-in_err-lots.ensures
+    ∙ moves_out ◌+ℤ◌ _ _ _ _ c.try_from.ensures c.in_ok-bought.ensures.value (search rules) c.in_err-lots.ensures
 
 pub returns : goal.returns
-unfolding raised_by moved_by
-returns c = moved_to up c.args.self.lots c.args.lots
-    (record { sfits = c.struct_told-1.given.0.1 }) c.if-lots-gt-MOST_LOTS.false c.if-n-at.false
+unfolding raised_by
+returns c = moves_to ◌+ℤ◌ _ _ _ _ c.try_from.ensures c.in_ok-bought.ensures.value (search rules) _ c.in_ok-lots.ensures

@@ -1,0 +1,203 @@
+-- A batch: what its calls leave, one by one, is what the rules give for it. Assumes nothing.
+use Prim.Native.Nat.{ℕ, zero, suc, ◌+◌, ◌-◌, ◌/◌, ◌%◌, ◌^◌, ◌<◌, ◌≤◌}
+use mathlib.Core.Bool.{Bool, true, false, ◌&&◌}
+use mathlib.Core.List.{List, [], ◌++◌}
+use mathlib.Core.Path.{◌≡◌, refl, sym, ap, ◌∙◌}
+use native.Mathlib.Omega.{arith}
+use borrow.Author.Tests.{leb-true}
+use lib.Dec.{leb, eqb}
+use lib.ListN.{length, length-append}
+use Rattle.std.specs.Prelude.{Ok, Err}
+use Rattle.numbers.specs.Choice.{pick}
+use Rattle.book.specs.declared.config.Config.{Config}
+use Rattle.state.specs.Numbers.{refusal_number}
+use Rattle.state.specs.declared.KernelEvent.{KernelEvent}
+use Rattle.state.specs.declared.KernelState.{KernelState}
+use Rattle.state.specs.declared.Refusal.{Refusal}
+use Rattle.state.specs.declared.Refusal.TheVariants.{RowWords, ListCount}
+use Rattle.rules.specs.Run as rules
+use Rattle.rules.specs.Run.{Run}
+use Rattle.rules.specs.Log.{written}
+use Rattle.rules.specs.Phases.{phases}
+use Rattle.rules.specs.Calls as calls
+use Rattle.rules.specs.Calls.{refuse, refusal_of, answer_on, answer, counts_fit, advance, pass}
+use Rattle.rules.specs.Batch.{call_records, ending, is_stay, goes_on, run_from, run, returned_run}
+use Rattle.rules.proofs.Cases.{both}
+use Rattle.rules.proofs.EventsBound.{phases-few}
+use Rattle.reports.specs.Log.{Logged, append_events}
+use Rattle.reports.proofs.Append.{appended_append, appended_all}
+use Rattle.entry.specs.Entry.{may_advance}
+use Rattle.batch.specs.Batch.{Called, called, told, actual_run}
+use Rattle.batch.proofs.Calls.{pass_fits}
+
+different : {A : Type 0} → ◌≡◌ {A = ℕ} 0 1 → A
+different z = absurd (omega arith)
+
+-- ---- the tests at entry
+-- a batch that is not refused passed both
+pub tests_passed : (words : ℕ) (s : KernelState) {v : Unit {0}} → Ok v ≡ may_advance words s → (eqb (words % 5) 0 ≡ true) × (counts_fit s ≡ true)
+unfolding may_advance pick
+tests_passed words s {v = v} e = go (eqb (words % 5) 0) (counts_fit s) e
+  where
+    go : (b f : Bool) → Ok v ≡ pick b (pick f (Ok tt) (Err ListCount)) (Err RowWords) → (b ≡ true) × (f ≡ true)
+    go true true e = (refl, refl)
+    go true false e = different cc
+    go false f e = different cc
+
+refused_on : (b f : Bool) (a : calls.Answer) (s : KernelState) (r : Refusal) → Err r ≡ pick b (pick f (Ok (tt {0})) (Err ListCount)) (Err RowWords)
+    → pick b (pick f a (refuse 102 s)) (refuse 101 s) ≡ refuse (refusal_number r) s
+unfolding pick
+refused_on true true a s r e = different cc
+refused_on true false a s r e = let q : r ≡ ListCount = cc in rw q
+refused_on false f a s r e = let q : r ≡ RowWords = cc in rw q
+
+pub run_refused : (c : Config) (rows w : List ℕ) (records passes : ℕ) (s : KernelState) {r : Refusal} → Err r ≡ may_advance (length rows) s
+    → actual_run (record { answer = Err r; state = s; events = 0; last = 0 }) w ≡ returned_run w (run c rows records passes s)
+unfolding may_advance advance run_from goes_on pick written
+run_refused c rows w records passes s {r} e = go passes
+  where
+    call_is : advance c rows s ≡ refuse (refusal_number r) s
+    call_is = refused_on (eqb (length rows % 5) 0) (counts_fit s) (answer (phases c rows s)) s r e
+
+    go : (n : ℕ) → actual_run (record { answer = Err r; state = s; events = 0; last = 0 }) w ≡ returned_run w (run c rows records n s)
+    go zero = rw call_is
+    go (suc k) = rw call_is
+
+-- ---- what follows a call a
+module _ (c : Config) (rows : List ℕ) (records : ℕ) (es : List KernelEvent) (s : KernelState) (a : calls.Answer) (e : advance c rows s ≡ a) where
+  run_none : run_from c rows records 0 es s ≡ ending es a
+  unfolding run_from
+  run_none = rw e
+
+  run_stops : goes_on records es a ≡ false → (n : ℕ) → run_from c rows records n es s ≡ ending es a
+  unfolding run_from pick
+  run_stops h zero = rw e
+  run_stops h (suc k) = rw (e, h)
+
+  run_goes : goes_on records es a ≡ true → (n : ℕ) → (n ≡ 0 → ⊥) → run_from c rows records n es s ≡ run_from c rows records (n - 1) (es ++ a.events) (pass a.state).state
+  unfolding run_from pick
+  run_goes h zero some = absurd (some refl)
+  run_goes h (suc k) some = let less : suc k - 1 ≡ k = omega arith in rw (e, h, less)
+
+-- ---- the calls
+module _ (c : Config) (rows w : List ℕ) (name passes : ℕ) (s₀ : KernelState) where
+  abbrev records : ℕ
+  records = length w / 12
+
+  -- the log that was lent, no event raised yet
+  abbrev pub lent : Logged
+  lent = record { words = w; count = 0; lender = name }
+
+  -- the calls before this one raised these events, and those from s on are the rest of the batch
+  pub record Sofar (left : ℕ) (s : KernelState) (l : Logged) : Type 0 where
+    pub events : List KernelEvent
+    pub log : l ≡ append_events lent events
+    pub few : length events < 2 ^ 60
+    pub fit : counts_fit s ≡ true
+    pub rest : run_from c rows records left events s ≡ run c rows records passes s₀
+
+  pub sofar_none : counts_fit s₀ ≡ true → Sofar passes s₀ lent
+  sofar_none fit = record { events = []; log = unfold append_events in refl; few = omega arith; fit = fit; rest = refl }
+
+  -- a call from s, and what the code left of it
+  module _ (five : eqb (length rows % 5) 0 ≡ true) (rows_few : length rows < 2 ^ 60) (short : length w < 2 ^ 60) {left : ℕ} {s : KernelState} {l : Logged} (S : Sofar left s l)
+      {b : Bool} {t : KernelState} {m : Logged} (e : called b t m ≡ told l (answer (phases c rows s))) where
+    abbrev given : calls.Answer
+    given = answer (phases c rows s)
+
+    abbrev all : List KernelEvent
+    all = S.events ++ given.events
+
+    call_is : advance c rows s ≡ given
+    unfolding advance pick
+    call_is = rw (five, S.fit)
+
+    all_few : length all < 2 ^ 64 - 1
+    all_few = omega (arith, S.few, phases-few c rows s S.fit, length-append S.events given.events)
+
+    stays_is : b ≡ is_stay given.did
+    unfolding told
+    stays_is = ap (λ (x : Called). x.stays) e
+
+    state_is : t ≡ given.state
+    unfolding told
+    state_is = ap (λ (x : Called). x.state) e
+
+    log_is : m ≡ append_events lent all
+    unfolding told
+    log_is = ap (λ (x : Called). x.log) e ∙ ap (λ x. append_events x given.events) S.log ∙ appended_append lent S.events given.events
+
+    written_is : m ≡ record { words = written w all; count = length all; lender = name }
+    written_is = log_is ∙ appended_all name w all (omega (arith, all_few))
+
+    before_is : l.count ≡ length S.events
+    before_is = ap (λ (x : Logged). x.count) (S.log ∙ appended_all name w S.events (omega (arith, S.few)))
+
+    count_is : m.count ≡ length all
+    count_is = ap (λ (x : Logged). x.count) written_is
+
+    pub raised_more : l.count ≤ m.count
+    raised_more = omega (arith, before_is, count_is, length-append S.events given.events)
+
+    pub lender_is : m.lender ≡ name
+    lender_is = ap (λ (x : Logged). x.lender) written_is
+
+    no_refusal : (r : Run) → refusal_of (answer r).did ≡ 0
+    unfolding answer
+    no_refusal r = go r.outcome
+      where
+        go : (o : rules.Outcome) → refusal_of (answer_on o r.state r.events).did ≡ 0
+        go rules.ran = refl
+        go rules.left = refl
+        go (rules.halt h) = refl
+        go (rules.ended ms) = refl
+
+    -- the last call
+    module _ {x : List ℕ} (words_are : x ≡ m.words) where
+      ended : run_from c rows records left S.events s ≡ ending S.events given
+          → actual_run (record { answer = Ok tt; state = t; events = m.count; last = m.count - l.count }) x ≡ returned_run w (run c rows records passes s₀)
+      ended h =
+          rw (words_are, written_is, before_is, state_is, ← no_refusal (phases c rows s)) refl
+          ∙ ap (returned_run w) (sym h ∙ S.rest)
+
+      -- it halted, or ended the data
+      pub last_over : b ≡ false → actual_run (record { answer = Ok tt; state = t; events = m.count; last = m.count - l.count }) x ≡ returned_run w (run c rows records passes s₀)
+      unfolding goes_on
+      last_over h = ended (run_stops c rows records S.events s given call_is (rw (← stays_is, h)) left)
+
+      -- no pass is left
+      pub last_pass : left ≡ 0 → actual_run (record { answer = Ok tt; state = t; events = m.count; last = m.count - l.count }) x ≡ returned_run w (run c rows records passes s₀)
+      last_pass h = ended (rw h (run_none c rows records S.events s given call_is))
+
+    -- the pass behind it: q is whether it goes on, and u where it leads
+    module _ {q : Bool} (hq : q ≡ (is_stay (pass t).did && leb (m.count + call_records) records)) (stays : b ≡ true) where
+      goes_is : q ≡ goes_on records S.events given
+      unfolding goes_on
+      goes_is = hq ∙ rw (state_is, count_is, ← stays_is, stays)
+
+      pub last_stuck : q ≡ false → {u : KernelState} → u ≡ pick q (pass t).state t → {x : List ℕ} → x ≡ m.words
+          → actual_run (record { answer = Ok tt; state = u; events = m.count; last = m.count - l.count }) x ≡ returned_run w (run c rows records passes s₀)
+      unfolding pick
+      last_stuck h {u} hu words_are = rw (hu, h) (ended words_are (run_stops c rows records S.events s given call_is (sym goes_is ∙ h) left))
+
+      pub sofar_more : q ≡ true → (left ≡ 0 → ⊥) → {u : KernelState} → u ≡ pick q (pass t).state t → Sofar (left - 1) u m
+      unfolding pick
+      sofar_more h some {u} hu = record {
+        events = all;
+        log = log_is;
+        few = omega (arith, room);
+        fit = rw left_is (pass_fits given.state passed);
+        rest = rw left_is (sym (run_goes c rows records S.events s given call_is (sym goes_is ∙ h) left some) ∙ S.rest);
+      }
+        where
+          open_now : (is_stay (pass t).did ≡ true) × (leb (m.count + call_records) records ≡ true)
+          open_now = both _ _ (sym hq ∙ h)
+
+          room : length all + call_records ≤ records
+          room = leb-true _ _ (rw count_is at open_now.1)
+
+          passed : is_stay (pass given.state).did ≡ true
+          passed = rw state_is at open_now.0
+
+          left_is : u ≡ (pass given.state).state
+          left_is = rw (hu, h, state_is)

@@ -1,0 +1,2 @@
+mod Calls
+mod Batch

@@ -17,5 +17,8 @@ pub type AgentAccount = Arr<OpenOrder, CAPACITY>;
 pub fn position(account: &AgentAccount, id: u64) -> Option<usize>
     ensures { result ≡ found_in (is_open_of id) (live account_capacity account.now) }
 {
-    account.position(|entry: &OpenOrder| entry.order_id == id)
+    account
+        .as_slice()
+        .iter()
+        .position(|entry| entry.order_id == id)
 }

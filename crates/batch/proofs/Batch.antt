@@ -2,7 +2,7 @@
 use Prim.Native.Nat.{ℕ, zero, suc, ◌+◌, ◌-◌, ◌/◌, ◌%◌, ◌^◌, ◌<◌, ◌≤◌}
 use mathlib.Core.Bool.{Bool, true, false, ◌&&◌}
 use mathlib.Core.List.{List, [], ◌++◌}
-use mathlib.Core.Path.{◌≡◌, refl, sym, ap, ◌∙◌}
+use mathlib.Core.Path.{◌≡◌, refl, sym, ap, ◌∙◌, subst}
 use native.Mathlib.Omega.{arith}
 use borrow.Author.Tests.{leb-true}
 use lib.Dec.{leb, eqb}
@@ -22,7 +22,6 @@ use Rattle.rules.specs.Phases.{phases}
 use Rattle.rules.specs.Calls as calls
 use Rattle.rules.specs.Calls.{refuse, refusal_of, answer_on, answer, counts_fit, advance, pass}
 use Rattle.rules.specs.Batch.{call_records, ending, is_stay, goes_on, run_from, run, returned_run}
-use Rattle.rules.proofs.Cases.{both}
 use Rattle.rules.proofs.EventsBound.{phases-few}
 use Rattle.reports.specs.Log.{Logged, append_events}
 use Rattle.reports.proofs.Append.{appended_append, appended_all}
@@ -99,6 +98,18 @@ module _ (c : Config) (rows w : List ℕ) (name passes : ℕ) (s₀ : KernelStat
   pub sofar_none : counts_fit s₀ ≡ true → Sofar passes s₀ lent
   sofar_none fit = record { events = []; log = unfold append_events in refl; few = omega arith; fit = fit; rest = refl }
 
+  -- behind these calls one was made, with so many passes left for the calls after it: b, t and m are what the code left of it, and before is how many events were raised when it began
+  pub record Made (left before : ℕ) (b : Bool) (t : KernelState) (m : Logged) : Type 0 where
+    pub from : KernelState
+    pub log_from : Logged
+    pub calls : Sofar left from log_from
+    pub call : called b t m ≡ told log_from (answer (phases c rows from))
+    pub counted : before ≡ log_from.count
+
+  pub made : {left before : ℕ} {s : KernelState} {l : Logged} {b : Bool} {t : KernelState} {m : Logged} → Sofar left s l → called b t m ≡ told l (answer (phases c rows s)) → before ≡ l.count
+      → Made left before b t m
+  made {s = s} {l = l} S e h = record { from = s; log_from = l; calls = S; call = e; counted = h }
+
   -- a call from s, and what the code left of it
   module _ (five : eqb (length rows % 5) 0 ≡ true) (rows_few : length rows < 2 ^ 60) (short : length w < 2 ^ 60) {left : ℕ} {s : KernelState} {l : Logged} (S : Sofar left s l)
       {b : Bool} {t : KernelState} {m : Logged} (e : called b t m ≡ told l (answer (phases c rows s))) where
@@ -152,52 +163,72 @@ module _ (c : Config) (rows w : List ℕ) (name passes : ℕ) (s₀ : KernelStat
         go (rules.halt h) = refl
         go (rules.ended ms) = refl
 
-    -- the last call
-    module _ {x : List ℕ} (words_are : x ≡ m.words) where
+    -- no call follows: before is how many events were raised when this one began, u is the state that is handed back, and x are the words
+    module _ {before : ℕ} (counted : before ≡ l.count) {u : KernelState} (kept : u ≡ t) {x : List ℕ} (words_are : x ≡ m.words) where
       ended : run_from c rows records left S.events s ≡ ending S.events given
-          → actual_run (record { answer = Ok tt; state = t; events = m.count; last = m.count - l.count }) x ≡ returned_run w (run c rows records passes s₀)
+          → actual_run (record { answer = Ok tt; state = u; events = m.count; last = m.count - before }) x ≡ returned_run w (run c rows records passes s₀)
       ended h =
-          rw (words_are, written_is, before_is, state_is, ← no_refusal (phases c rows s)) refl
+          rw (words_are, written_is, counted, before_is, kept, state_is, ← no_refusal (phases c rows s)) refl
           ∙ ap (returned_run w) (sym h ∙ S.rest)
 
-      -- it halted, or ended the data
-      pub last_over : b ≡ false → actual_run (record { answer = Ok tt; state = t; events = m.count; last = m.count - l.count }) x ≡ returned_run w (run c rows records passes s₀)
-      unfolding goes_on
-      last_over h = ended (run_stops c rows records S.events s given call_is (rw (← stays_is, h)) left)
+      stopped : goes_on records S.events given ≡ false
+          → actual_run (record { answer = Ok tt; state = u; events = m.count; last = m.count - before }) x ≡ returned_run w (run c rows records passes s₀)
+      stopped h = ended (run_stops c rows records S.events s given call_is h left)
 
       -- no pass is left
-      pub last_pass : left ≡ 0 → actual_run (record { answer = Ok tt; state = t; events = m.count; last = m.count - l.count }) x ≡ returned_run w (run c rows records passes s₀)
+      pub last_pass : left ≡ 0 → actual_run (record { answer = Ok tt; state = u; events = m.count; last = m.count - before }) x ≡ returned_run w (run c rows records passes s₀)
       last_pass h = ended (rw h (run_none c rows records S.events s given call_is))
 
-    -- the pass behind it: q is whether it goes on, and u where it leads
-    module _ {q : Bool} (hq : q ≡ (is_stay (pass t).did && leb (m.count + call_records) records)) (stays : b ≡ true) where
-      goes_is : q ≡ goes_on records S.events given
+      -- the call halted, or ended the data
+      pub last_over : b ≡ false → actual_run (record { answer = Ok tt; state = u; events = m.count; last = m.count - before }) x ≡ returned_run w (run c rows records passes s₀)
       unfolding goes_on
-      goes_is = hq ∙ rw (state_is, count_is, ← stays_is, stays)
+      last_over h = stopped (rw (← stays_is, h))
 
-      pub last_stuck : q ≡ false → {u : KernelState} → u ≡ pick q (pass t).state t → {x : List ℕ} → x ≡ m.words
-          → actual_run (record { answer = Ok tt; state = u; events = m.count; last = m.count - l.count }) x ≡ returned_run w (run c rows records passes s₀)
-      unfolding pick
-      last_stuck h {u} hu words_are = rw (hu, h) (ended words_are (run_stops c rows records S.events s given call_is (sym goes_is ∙ h) left))
-
-      pub sofar_more : q ≡ true → (left ≡ 0 → ⊥) → {u : KernelState} → u ≡ pick q (pass t).state t → Sofar (left - 1) u m
-      unfolding pick
-      sofar_more h some {u} hu = record {
-        events = all;
-        log = log_is;
-        few = omega (arith, room);
-        fit = rw left_is (pass_fits given.state passed);
-        rest = rw left_is (sym (run_goes c rows records S.events s given call_is (sym goes_is ∙ h) left some) ∙ S.rest);
-      }
+      -- the log has no room
+      pub last_full : false ≡ leb (m.count + call_records) records
+          → actual_run (record { answer = Ok tt; state = u; events = m.count; last = m.count - before }) x ≡ returned_run w (run c rows records passes s₀)
+      unfolding goes_on
+      last_full h = stopped (rw (← count_is, ← h) (none_with (is_stay given.did) (is_stay (pass given.state).did)))
         where
-          open_now : (is_stay (pass t).did ≡ true) × (leb (m.count + call_records) records ≡ true)
-          open_now = both _ _ (sym hq ∙ h)
+          none_with : (p q : Bool) → (p && q && false) ≡ false
+          none_with true true = refl
+          none_with true false = refl
+          none_with false q = refl
 
-          room : length all + call_records ≤ records
-          room = leb-true _ _ (rw count_is at open_now.1)
+      -- the pass is refused
+      pub last_refused : is_stay (pass t).did ≡ false
+          → actual_run (record { answer = Ok tt; state = u; events = m.count; last = m.count - before }) x ≡ returned_run w (run c rows records passes s₀)
+      unfolding goes_on
+      last_refused h = let g : is_stay (pass given.state).did ≡ false = rw (← state_is) h in stopped (rw g (none_with (is_stay given.did) _))
+        where
+          none_with : (p q : Bool) → (p && false && q) ≡ false
+          none_with true q = refl
+          none_with false q = refl
 
-          passed : is_stay (pass given.state).did ≡ true
-          passed = rw state_is at open_now.0
+    -- the pass behind it, and the calls that follow
+    pub sofar_more : b ≡ true → true ≡ leb (m.count + call_records) records → is_stay (pass t).did ≡ true → 0 < left → {u : KernelState} → u ≡ (pass t).state → Sofar (left - 1) u m
+    unfolding goes_on
+    sofar_more stays fits passed some {u} hu = record {
+      events = all;
+      log = log_is;
+      few = omega (arith, room);
+      fit = rw left_is (pass_fits given.state passes_on);
+      rest = rw left_is (sym (run_goes c rows records S.events s given call_is goes left (omega arith)) ∙ S.rest);
+    }
+      where
+        room : length all + call_records ≤ records
+        room = leb-true _ _ (rw (← count_is) (sym fits))
 
-          left_is : u ≡ (pass given.state).state
-          left_is = rw (hu, h, state_is)
+        passes_on : is_stay (pass given.state).did ≡ true
+        passes_on = rw (← state_is) passed
+
+        goes : goes_on records S.events given ≡ true
+        goes = rw (← stays_is, stays, passes_on, ← count_is, ← fits)
+
+        left_is : u ≡ (pass given.state).state
+        left_is = rw (hu, state_is)
+
+-- the calls and the last of them, where its log has this name
+pub named : {c : Config} {rows w : List ℕ} {name passes left before : ℕ} {s₀ : KernelState} {b : Bool} {t : KernelState} {m : Logged} {n : ℕ} → n ≡ name
+    → Made c rows w name passes s₀ left before b t m → Made c rows w n passes s₀ left before b t m
+named {c} {rows} {w} {name} {passes} {left} {before} {s₀} {b} {t} {m} {n} h M = subst (λ (x : ℕ). Made c rows w x passes s₀ left before b t m) (sym h) M

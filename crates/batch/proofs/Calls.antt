@@ -1,13 +1,10 @@
 -- A call and the pass behind it: one law for each way out. Assumes nothing.
-use Prim.Native.Nat.{ℕ, ◌+◌, ◌≤◌, ◌<◌}
-use mathlib.Core.Bool.{Bool, true, false, ◌&&◌, false≢true}
+use Prim.Native.Nat.{ℕ, ◌+◌}
+use mathlib.Core.Bool.{true, false, false≢true}
 use mathlib.Core.List.{[], ◌∷◌}
 use mathlib.Core.Path.{◌≡◌, refl, sym, ap, ◌∙◌}
 use native.Mathlib.Omega.{arith}
-use lib.Dec.{leb}
-use borrow.Author.Tests.{le-leb, lt-leb}
-use Rattle.std.specs.Prelude.{Result, Ok, Err, is_ok}
-use Rattle.numbers.specs.Choice.{pick}
+use Rattle.std.specs.Prelude.{Result, Ok, Err, is_err}
 use Rattle.lists.proofs.Cases.{pick_case}
 use Rattle.state.specs.declared.HaltReason.{HaltReason}
 use Rattle.state.specs.declared.KernelEvent.TheVariants as event
@@ -18,7 +15,7 @@ use Rattle.rules.specs.Run as rules
 use Rattle.rules.specs.Run.{Run}
 use Rattle.rules.specs.Calls as calls
 use Rattle.rules.specs.Calls.{counts_fit, is_paused, halted, answer_on, answer, pass, returned}
-use Rattle.rules.specs.Batch.{call_records, is_stay}
+use Rattle.rules.specs.Batch.{is_stay}
 use Rattle.rules.proofs.Cases.{word_case}
 use Rattle.reports.specs.Log.{Logged, append_event, append_events, outcome_of, StepResult, expected, actual}
 use Rattle.reports.specs.declared.Stop.TheVariants.{Left, Halt, Ended}
@@ -95,11 +92,12 @@ pub pass_fits : (s : KernelState) → is_stay (pass s).did ≡ true → counts_f
 unfolding counts_fit
 pass_fits s = pass_case (λ a. is_stay a.did ≡ true → counts_fit a.state ≡ true) s (λ f n e. f) (λ n e. absurd (false≢true e))
 
-number_high : (r : Result (Unit {0}) Refusal) (n : ℕ) → answer_number r ≡ 101 + n → is_ok r ≡ false
+-- what the answer's number says of the code's answer
+number_high : (r : Result (Unit {0}) Refusal) (n : ℕ) → answer_number r ≡ 101 + n → is_err r ≡ true
 number_high (Ok v) n e = absurd (omega arith)
 number_high (Err r) n e = refl
 
-number_none : (r : Result (Unit {0}) Refusal) → answer_number r ≡ 0 → is_ok r ≡ true
+number_none : (r : Result (Unit {0}) Refusal) → answer_number r ≡ 0 → is_err r ≡ false
 number_none (Ok v) e = refl
 number_none (Err RowWords) e = absurd (omega arith)
 number_none (Err ListCount) e = absurd (omega arith)
@@ -109,32 +107,14 @@ number_none (Err StepLimit) e = absurd (omega arith)
 
 -- r and t are what the code's pass answered and left
 module _ (s : KernelState) (r : Result (Unit {0}) Refusal) {t : KernelState} (e : passed r t ≡ returned [] (pass s)) where
-  pub pass_stays : is_ok r ≡ is_stay (pass s).did
-  pass_stays =
-      pass_case (λ a. passed r t ≡ returned [] a → is_ok r ≡ is_stay a.did) s
-      (λ f n q. number_none r (ap (λ (x : calls.Result). x.answer) q)) (λ n q. number_high r n (ap (λ (x : calls.Result). x.answer) q)) e
+  pub pass_goes : false ≡ is_err r → (is_stay (pass s).did ≡ true) × (t ≡ (pass s).state)
+  pass_goes =
+      pass_case (λ a. passed r t ≡ returned [] a → false ≡ is_err r → (is_stay a.did ≡ true) × (t ≡ a.state)) s
+      (λ f n q h. (refl, ap (λ (x : calls.Result). x.state) q))
+      (λ n q h. absurd (false≢true (h ∙ number_high r n (ap (λ (x : calls.Result). x.answer) q)))) e
 
-  pub pass_leaves : t ≡ pick (is_ok r) (pass s).state s
-  unfolding pick
-  pass_leaves =
-      pass_case (λ a. passed r t ≡ returned [] a → t ≡ pick (is_ok r) a.state s) s
-      (λ f n q. ap (λ (x : calls.Result). x.state) q ∙ ap (λ b. pick b (calls.passed n s).state s) (sym (number_none r (ap (λ (x : calls.Result). x.answer) q))))
-      (λ n q. ap (λ (x : calls.Result). x.state) q ∙ ap (λ b. pick b s s) (sym (number_high r n (ap (λ (x : calls.Result). x.answer) q)))) e
-
-  module _ (raised records : ℕ) where
-    -- there is room
-    pub goes_with : raised + call_records ≤ records → is_ok r ≡ (is_stay (pass s).did && leb (raised + call_records) records)
-    goes_with h = pass_stays ∙ go (is_stay (pass s).did)
-      where
-        go : (b : Bool) → b ≡ (b && leb (raised + call_records) records)
-        go true = sym (le-leb _ _ h)
-        go false = refl
-
--- there is none
-pub goes_without : (b : Bool) (raised records : ℕ) → records < raised + call_records → false ≡ (b && leb (raised + call_records) records)
-goes_without true raised records h = sym (lt-leb _ _ h)
-goes_without false raised records h = refl
-
-pub stays_as_it_was : {A : Type 0} (x y : A) {n m : ℕ} → n < m → y ≡ pick (leb m n) x y
-unfolding pick
-stays_as_it_was x y h = rw (lt-leb _ _ h)
+  pub pass_refused : true ≡ is_err r → (is_stay (pass s).did ≡ false) × (t ≡ s)
+  pass_refused =
+      pass_case (λ a. passed r t ≡ returned [] a → true ≡ is_err r → (is_stay a.did ≡ false) × (t ≡ s)) s
+      (λ f n q h. absurd (false≢true (sym (h ∙ number_none r (ap (λ (x : calls.Result). x.answer) q)))))
+      (λ n q h. (refl, ap (λ (x : calls.Result). x.state) q)) e

@@ -1,12 +1,12 @@
 // A batch of calls (advance of step.rs of the Rust), and the passes between them.
+// What a step takes, the rows too, stands apart, as in `reports`.
 #![tactic(auto)]
 
-ghost use Rattle.std.specs.Prelude.{◌≡◌, ◌+◌, ◌/◌, ◌&&◌, leb, length};
-ghost use Rattle.numbers.specs.Choice.{pick};
+ghost use Rattle.std.specs.Prelude.{◌≡◌, ◌+◌, ◌/◌, leb, length};
 ghost use Rattle.state.specs.declared.KernelEvent.TheVariants as event;
 ghost use Rattle.rules.specs.Phases.{phases};
-ghost use Rattle.rules.specs.Calls.{halted, answer, pass};
-ghost use Rattle.rules.specs.Batch.{call_records, is_stay, run, returned_run};
+ghost use Rattle.rules.specs.Calls.{halted, answer};
+ghost use Rattle.rules.specs.Batch.{call_records, run, returned_run};
 ghost use Rattle.reports.specs.Log.{log_of, append_event};
 ghost use Rattle.batch.specs.Batch.{called, told, actual_run};
 
@@ -20,7 +20,7 @@ use state::{HaltReason, KernelEvent, KernelState, Refusal, Status};
 // The records of the log that another call must have room for.
 const CALL_RECORDS: usize = 512;
 
-// What a batch gives: the answer and the state of its last call, how many events all its calls raised, and how many the last one did.
+// What a batch gives: the answer and the state of its last call, how many events all its calls raised, and how many the last one did. The state comes back in every case, refused or not, and so stands beside the answer and not in it.
 #[derive(Clone, Copy)]
 pub struct Advanced {
     pub answer: Result<(), Refusal>,
@@ -39,7 +39,7 @@ fn halt(s: &mut KernelState, reason: HaltReason, log: &mut Log)
     log.emit(KernelEvent::Halted(reason));
 }
 
-// One call: whether it neither halted nor reached the end of the data.
+// One call: whether it neither halted nor reached the end of the data. Its halt is done here, so that nothing is left to hand on.
 fn call(cfg: &Config, rows: &[u64], s: &mut KernelState, log: &mut Log) -> bool
     ensures { called result s.new (log_of log.new) ≡ told (log_of log.old) (answer (phases cfg.now rows.now s.old)) }
 {
@@ -54,12 +54,11 @@ fn call(cfg: &Config, rows: &[u64], s: &mut KernelState, log: &mut Log) -> bool
     }
 }
 
-// Whether another call follows: the log has room for its events, and the pass before it is not refused.
-fn goes_on(records: usize, raised: u64, s: &mut KernelState) -> bool
-    ensures answer { result ≡ is_stay (pass s.old).did && leb (raised + call_records) records }
-    ensures state { s.new ≡ pick result (pass s.old).state s.old }
+// Whether the log has room for another call's events.
+fn has_room(records: usize, raised: u64) -> bool
+    ensures { result ≡ leb (raised + call_records) records }
 {
-    records.saturating_sub(raised as usize) >= CALL_RECORDS && pass(s).is_ok()
+    records.saturating_sub(raised as usize) >= CALL_RECORDS
 }
 
 // Advances and passes by turns, up to a number of passes, while nothing else is wanted and the log has room for another call's events.
@@ -85,18 +84,19 @@ pub fn run(
         words: log,
         raised: 0,
     };
-    let mut left = passes;
-    loop {
-        let before = log.raised;
-        let stays = call(cfg, rows, &mut state, &mut log);
-        if !stays || left == 0 || !goes_on(records, log.raised, &mut state) {
-            return Advanced {
-                answer: Ok(()),
-                state,
-                events: log.raised,
-                last: log.raised - before,
-            };
+    let mut before = 0;
+    let mut stays = call(cfg, rows, &mut state, &mut log);
+    for _ in 0..passes {
+        if !stays || !has_room(records, log.raised) || pass(&mut state).is_err() {
+            break;
         }
-        left -= 1;
+        before = log.raised;
+        stays = call(cfg, rows, &mut state, &mut log);
+    }
+    Advanced {
+        answer: Ok(()),
+        state,
+        events: log.raised,
+        last: log.raised - before,
     }
 }

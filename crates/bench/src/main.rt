@@ -9,13 +9,12 @@ use batch::run;
 use book::config::Config;
 use day::{Day, Kind};
 use kernel::pass;
+use reports::log::WORDS;
 use state::{KernelState, Phase};
 use std::{env, io};
 
-const EVENT_WORDS: usize = 12;
-
 // The log has room for a call behind 512 records.
-const LOG_WORDS: usize = 1024 * EVENT_WORDS;
+const LOG_WORDS: usize = 1024 * WORDS;
 
 // What the batches of a day are given.
 #[derive(Drop)]
@@ -35,16 +34,19 @@ struct Total {
     position: i64,
 }
 
-// The sum turns left by one bit before each word of the events that the log holds.
+// The sum turns left by one bit before each word of the events that the log holds. Not put into the loop of the calls, which is what is timed.
+#[inline(never)]
 fn add_events(sum: u64, log: &[u64], events: u64) -> u64 {
-    let words = EVENT_WORDS.saturating_mul(events as usize);
-    log.iter()
-        .take(words)
+    let (records, _) = log.as_chunks::<WORDS>();
+    records
+        .iter()
+        .take(events as usize)
+        .flatten()
         .fold(sum, |sum, word| sum.rotate_left(1).wrapping_add(*word))
 }
 
 impl Bench<'_, '_> {
-    // A day from its start to its end, a pass between two batches.
+    // A day from its start to its end, a pass between two batches. The first run alone is summed, so that the others are times of the kernel. A proved loop has to end, so the batches are counted, to a number that no day reaches.
     fn play(&mut self, start: KernelState, summed: bool) -> Total {
         let mut state = start;
         let mut events = 0u64;

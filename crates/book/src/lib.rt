@@ -11,8 +11,9 @@ ghost use Rattle.book.specs.Numbers.{side_number, exec_number, origin_number};
 use lists::Blank;
 
 // The Rust's Dir.
-#[derive(Clone, Copy, PartialEq, Eq)]
+#[derive(Clone, Copy, PartialEq, Eq, Default)]
 pub enum Side {
+    #[default]
     Buy,
     Sell,
 }
@@ -29,8 +30,9 @@ impl From<Side> for u64 {
     }
 }
 
-#[derive(Clone, Copy, PartialEq, Eq)]
+#[derive(Clone, Copy, PartialEq, Eq, Default)]
 pub enum OrderState {
+    #[default]
     Submitted,
     Active,
     Filled,
@@ -50,7 +52,7 @@ impl OrderState {
 }
 
 // An order at the venue: resting, pending activation or awaiting a cancel's outcome.
-#[derive(Clone, Copy)]
+#[derive(Clone, Copy, Default)]
 pub struct VenueOrder {
     pub id: u64,
     pub price: u64,
@@ -66,16 +68,7 @@ impl Blank for VenueOrder {
     ghost blank = { blank_order };
 
     fn blank() -> Self {
-        VenueOrder {
-            id: 0,
-            side: Side::Buy,
-            price: 0,
-            qty: 0,
-            filled: 0,
-            state: OrderState::Submitted,
-            active_after_ns: 0,
-            cancel_inflight: false,
-        }
+        Self::default()
     }
 }
 
@@ -120,6 +113,7 @@ pub struct VenueMsg {
 impl Blank for VenueMsg {
     ghost blank = { blank_msg };
 
+    // By hand: `Default` is derived of an enum only where its first case holds nothing, and a cancel holds a number.
     fn blank() -> Self {
         VenueMsg {
             eff_ns: 0,
@@ -140,24 +134,19 @@ impl VenueMsg {
     pub fn is_activation(&self, id: u64) -> bool
         ensures { result ≡ is_activation id self.now }
     {
-        match self.kind {
-            MsgKind::Activate { order, .. } => order.id == id,
-            MsgKind::Cancel { .. } | MsgKind::Expire { .. } => false,
-        }
+        matches!(&self.kind, MsgKind::Activate { order, .. } if order.id == id)
     }
 
     pub fn is_expiry(&self, id: u64) -> bool
         ensures { result ≡ is_expiry id self.now }
     {
-        match self.kind {
-            MsgKind::Expire { id: target } => target == id,
-            MsgKind::Cancel { .. } | MsgKind::Activate { .. } => false,
-        }
+        matches!(&self.kind, MsgKind::Expire { id: target } if *target == id)
     }
 }
 
-#[derive(Clone, Copy, PartialEq, Eq)]
+#[derive(Clone, Copy, PartialEq, Eq, Default)]
 pub enum ExecKind {
+    #[default]
     Accepted,
     Rejected,
     Canceled,
@@ -183,8 +172,9 @@ impl From<ExecKind> for u64 {
 }
 
 // Where a report was produced.
-#[derive(Clone, Copy, PartialEq, Eq)]
+#[derive(Clone, Copy, PartialEq, Eq, Default)]
 pub enum Origin {
+    #[default]
     Local,
     Venue,
 }
@@ -201,7 +191,7 @@ impl From<Origin> for u64 {
     }
 }
 
-#[derive(Clone, Copy)]
+#[derive(Clone, Copy, Default)]
 pub struct ReportRec {
     pub ts_ns: u64,
     pub seq: u64,
@@ -227,7 +217,7 @@ pub struct FillRec {
 }
 
 // A report on its way to the agent, with the fill's record if it came from a match.
-#[derive(Clone, Copy)]
+#[derive(Clone, Copy, Default)]
 pub struct Delivery {
     pub at_ns: u64,
     pub report: ReportRec,
@@ -238,28 +228,12 @@ impl Blank for Delivery {
     ghost blank = { blank_delivery };
 
     fn blank() -> Self {
-        Delivery {
-            at_ns: 0,
-            report: ReportRec {
-                ts_ns: 0,
-                seq: 0,
-                order_id: 0,
-                side: Side::Buy,
-                kind: ExecKind::Accepted,
-                origin: Origin::Local,
-                cancel_pending: false,
-                price: 0,
-                qty: 0,
-                last: 0,
-                cum: 0,
-            },
-            fill: None,
-        }
+        Self::default()
     }
 }
 
 // An observation on its way to the agent.
-#[derive(Clone, Copy)]
+#[derive(Clone, Copy, Default)]
 pub struct ObsEntry {
     pub ready_ns: u64,
     pub row: u64,
@@ -269,15 +243,12 @@ impl Blank for ObsEntry {
     ghost blank = { blank_obs };
 
     fn blank() -> Self {
-        ObsEntry {
-            ready_ns: 0,
-            row: 0,
-        }
+        Self::default()
     }
 }
 
 // An order that the agent submitted and has not seen closed.
-#[derive(Clone, Copy)]
+#[derive(Clone, Copy, Default)]
 pub struct OpenOrder {
     pub order_id: u64,
     pub awaiting_cancel_outcome: bool,
@@ -287,9 +258,6 @@ impl Blank for OpenOrder {
     ghost blank = { blank_open };
 
     fn blank() -> Self {
-        OpenOrder {
-            order_id: 0,
-            awaiting_cancel_outcome: false,
-        }
+        Self::default()
     }
 }

@@ -2,7 +2,7 @@
 use super::entries::Entry;
 use super::reader::{Fields, Lines, ReadError};
 use super::states::read_state;
-use book::config::{Config, FillMode};
+use book::config::{Config, FillMode, ROW_WORDS};
 use state::KernelState;
 use std::alloc::Global;
 use std::io::{self, BufRead, Write};
@@ -13,8 +13,6 @@ const MOST_NAME: usize = 255;
 const MOST_ROW_WORDS: usize = 16384;
 
 const MOST_CALLS: usize = 4096;
-
-const ROW_WORDS: usize = 5;
 
 #[derive(Clone, Copy)]
 pub enum Call {

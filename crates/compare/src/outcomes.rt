@@ -4,15 +4,14 @@ use super::entries::put;
 use super::states::write_state;
 use book::config::Config;
 use kernel::{advance, pass};
+use reports::log::WORDS;
 use state::{KernelState, Refusal};
 use std::io::{self, Write};
 
 // The room for a log. A log that is longer counts as this one, which no call fills.
 pub const LOG_WORDS: usize = 24576;
 
-const EVENT_WORDS: usize = 12;
-
-type Event = [u64; EVENT_WORDS];
+type Event = [u64; WORDS];
 
 // What calls by turns came to: how many events they raised, and FNV-1a of 64 bits over the words of those that the logs held, each as its eight bytes, the lowest first.
 #[derive(Drop)]
@@ -71,7 +70,7 @@ impl Run<'_, '_> {
 
     // The events that the log holds whole, of those raised.
     fn kept(&self, raised: u64) -> &[Event] {
-        let (events, _) = self.log.as_chunks::<EVENT_WORDS>();
+        let (events, _) = self.log.as_chunks::<WORDS>();
         let count = events.len().min(raised as usize);
         &events[..count]
     }

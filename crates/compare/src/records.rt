@@ -1,4 +1,4 @@
-// The kernel's enums and records as entries.
+// The kernel's enums and records as entries. An enum is read where its line is, which is bad where no case has the number; the numbers are the case text's, and no other reader has a use for a `TryFrom`.
 use super::entries::{Entry, Optional, write_unused};
 use super::reader::{Fields, ReadError};
 use book::{

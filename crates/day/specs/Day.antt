@@ -1,43 +1,41 @@
--- What `day::turns` leaves: a batch of calls, its lines, and a pass.
-use Rattle.std.specs.Prelude.{ℕ, suc, ◌+◌, ◌/◌, Bool, List, ◌++◌, ◌≡◌, length, take}
+-- What `day::Progress::turns` leaves: a batch of calls, its lines, and a pass.
+use Rattle.std.specs.Prelude.{ℕ, suc, ◌+◌, ◌/◌, Bool, List, ◌++◌, ◌≡◌, length}
 use Rattle.numbers.specs.Choice.{pick}
 use Rattle.book.specs.declared.config.Config.{Config}
-use Rattle.state.specs.declared.KernelState.{KernelState}
 use Rattle.rules.specs.Batch.{BatchResult, run, returned_run}
-use Rattle.write.specs.Write.{Text, text_at, texted}
+use Rattle.write.specs.declared.Writer.{Writer}
+use Rattle.write.specs.Write.{written}
 use Rattle.lines.specs.Print.{call_text, filled_after}
 use Rattle.day.specs.Replay.{has_more, passed_on, last_of, turns_from}
-use Rattle.day.specs.declared.Turned.{Turned}
+use Rattle.day.specs.declared.Progress.{Progress}
 
--- what turns leave: whether the run goes on, the state, the lots filled so far, the log, and the text of what they print
+-- what turns leave: whether the run goes on, how far it has come, the log, and the text with what they print
 pub record TurnsResult : Type 0 where
   pub more : Bool
-  pub state : KernelState
-  pub filled : ℕ
+  pub progress : Progress
   pub log : List ℕ
-  pub text : Text
+  pub text : Writer
 
 -- the passes of a batch: as many as a run file has rows
 abbrev pub batch_passes : ℕ
 batch_passes = 512
 
 -- a batch, its lines and, unless it ended the run, a pass
-unfoldable pub turned : Config → List ℕ → KernelState → ℕ → List ℕ → List ℕ → TurnsResult
-turned c rows s filled log out =
-    let b : BatchResult = returned_run log (run c rows (length log / 12) batch_passes s) in
+unfoldable pub turned : Config → List ℕ → Progress → List ℕ → Writer → TurnsResult
+turned c rows p log text =
+    let b : BatchResult = returned_run log (run c rows (length log / 12) batch_passes p.state) in
     record {
       more = has_more b.state;
-      state = passed_on b.state;
-      filled = filled_after filled b.log b.count b.last;
+      progress = record { state = passed_on b.state; filled = filled_after p.filled b.log b.count b.last };
       log = b.log;
-      text = texted (text_at out 0) (call_text b.log b.count b.last);
+      text = written text (call_text b.log b.count b.last);
     }
 
--- what the code hands back, with the log and the bytes that it was lent
-abbrev pub actual_turns : Turned → List ℕ → List ℕ → TurnsResult
-actual_turns t log out = record { more = t.more; state = t.state; filled = t.filled; log = log; text = text_at out t.length }
+-- what the code hands back, with what it was lent
+abbrev pub actual_turns : Bool → Progress → List ℕ → Writer → TurnsResult
+actual_turns more p log text = record { more = more; progress = p; log = log; text = text }
 
 -- the batch stands for one turn of document 01 or more: what it printed, and what n turns behind it print, is what they print together
-abbrev pub PrintsTurns : Config → List ℕ → KernelState → ℕ → Turned → List ℕ → Type 0
-PrintsTurns c rows s filled t out =
-    (turns : ℕ) × ((n : ℕ) → take t.length out ++ pick t.more (turns_from n c rows t.state t.filled) (last_of t.state t.filled) ≡ turns_from (suc (turns + n)) c rows s filled)
+abbrev pub PrintsTurns : Config → List ℕ → Progress → Bool → Progress → List ℕ → Type 0
+PrintsTurns c rows from more to out =
+    (turns : ℕ) × ((n : ℕ) → out ++ pick more (turns_from n c rows to.state to.filled) (last_of to.state to.filled) ≡ turns_from (suc (turns + n)) c rows from.state from.filled)

@@ -1,4 +1,4 @@
-// An activation: a valid order rests at the venue, with its expiry; an invalid one is rejected.
+// An activation: a valid order rests at the venue, with its expiry; an invalid one is rejected. What a step takes stands apart, as in `reports`.
 ghost use Rattle.std.specs.Prelude.{◌≡◌, ℕ};
 ghost use Rattle.book.specs.declared.MsgKind.{MsgKind};
 ghost use Rattle.state.specs.declared.KernelState.{KernelState};

@@ -1,4 +1,4 @@
-// A cancel of the agent: of a booked order, else of one whose activation is pending, else too late for one that awaits it.
+// A cancel of the agent: of a booked order, else of one whose activation is pending, else too late for one that awaits it. What a step takes stands apart, as in `reports`.
 ghost use Rattle.std.specs.Prelude.{◌≡◌};
 ghost use Rattle.state.specs.declared.KernelState.{KernelState};
 ghost use Rattle.rules.specs.Messages.{cancel_booked, cancel_activation, cancel_awaiting, cancel};

@@ -1,4 +1,4 @@
-// The venue's cancel of a resting order at its expiry.
+// The venue's cancel of a resting order at its expiry. What a step takes stands apart, as in `reports`.
 ghost use Rattle.std.specs.Prelude.{◌≡◌};
 ghost use Rattle.state.specs.declared.KernelState.{KernelState};
 ghost use Rattle.rules.specs.Messages.{expire_booked, expire};

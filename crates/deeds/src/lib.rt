@@ -1,4 +1,4 @@
-// What a message of the venue does: an activation, a cancel, an expiry, and here the steps that others take too.
+// What a message of the venue does: an activation, a cancel, an expiry, and here the steps that others take too. What a step takes stands apart, as in `reports`.
 #![tactic(auto)]
 
 pub mod activation;

@@ -1,4 +1,4 @@
-// Deliveries, and the end of data (step.rs of the Rust).
+// Deliveries, and the end of data (step.rs of the Rust). The state and the log stand apart, as in `reports`.
 #![tactic(auto)]
 
 ghost use Rattle.std.specs.Prelude.{◌≡◌, map};

@@ -5,6 +5,7 @@ ghost use Rattle.std.specs.Prelude.{[], ◌≡◌};
 ghost use Rattle.rules.specs.Calls.{pass, returned, counts_fit, is_paused, can_resume};
 ghost use Rattle.entry.specs.Entry.{may_advance, passed};
 
+use book::config::ROW_WORDS;
 use numbers::words::checked_add;
 use state::{KernelState, Phase, Refusal};
 
@@ -26,7 +27,7 @@ pub fn counts_fit(s: &KernelState) -> bool
 pub fn may_advance(words: usize, s: &KernelState) -> Result<(), Refusal>
     ensures { result ≡ may_advance words s.now }
 {
-    if words % 5 != 0 {
+    if words % ROW_WORDS != 0 {
         return Err(Refusal::RowWords);
     }
     if counts_fit(s) {

@@ -45,7 +45,7 @@ fn ahead_of(row: &KernelTick, order: &VenueOrder) -> u64
     }
 }
 
-// What clears of the order: floor(rate * ms / per) lots have passed, less those ahead of it.
+// What clears of the order: floor(rate * ms / per) lots have passed, less those ahead of it. Numbers, and no struct: the time and the lots ahead are of this row alone.
 #[tactic(auto, unfolding(rules::specs::Matching::lots_of, numbers::specs::Choice::pick))]
 fn cleared_lots(rate: u64, ms: u64, per: u64, ahead: u64, order: &VenueOrder) -> u64
     ensures { result ≡ lots_of (rate * ms / per - ahead) order.now }
@@ -56,6 +56,7 @@ fn cleared_lots(rate: u64, ms: u64, per: u64, ahead: u64, order: &VenueOrder) ->
     cleared.saturating_sub(order.filled)
 }
 
+// The three numbers of the queue's mode are taken apart at the one call, as in the Rust, and no struct holds them.
 #[tactic(auto, unfolding(rules::specs::Matching::queue_fill_lots, numbers::specs::Choice::pick))]
 fn queue_fill_lots(
     rate_lots: u64,

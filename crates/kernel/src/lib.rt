@@ -17,6 +17,7 @@ pub fn advance(cfg: &Config, rows: &[u64], state: KernelState, log: &mut [u64]) 
     run(cfg, rows, state, log, 0)
 }
 
+// What a pass gives. The state comes back in every case, refused or not, and so stands beside the answer and not in it.
 #[derive(Clone, Copy)]
 pub struct Passed {
     pub answer: Result<(), Refusal>,

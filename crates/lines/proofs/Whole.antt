@@ -100,7 +100,7 @@ module _ (log : List ℕ) (events last : ℕ) (h : Words log) where
       let r : records_of log events last ≤ length log / 12 = omega arith in
       simp length-append (omega (arith, r, printed-most (records_of log events last) log h, either-most (ltb (records_of log events last) events) (bytes "cut\n") [] 4 (omega arith) (omega arith)))
 
-  -- what `put_call` leaves where the bytes have that room: the text in front, and its length as the answer
+  -- what a writer of that room has after `put_lines`, if it had nothing before: the text in front, and its length
   pub printed-whole : (out : List ℕ) → length log / 12 * 110 + 4 ≤ length out
       → texted (text_at out 0) (call_text log events last) ≡ text_at (call_text log events last ++ drop (length (call_text log events last)) out) (length (call_text log events last))
   printed-whole out f =

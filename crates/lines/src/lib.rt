@@ -3,54 +3,28 @@
 
 ghost use Rattle.std.specs.Prelude.{◌≡◌, ◌+◌, ◌-◌, ◌/◌, ◌^◌, min, fold, length, map, take};
 ghost use Rattle.std.specs.Simd.{first_chunks};
-ghost use Rattle.write.specs.Write.{text_at, texted, written};
+ghost use Rattle.write.specs.Write.{written};
 ghost use Rattle.lines.specs.Print.{records_of, call_text, last_line, bad_line, filled_lots, filled_after};
 
-use logline::{Record, put_event};
+use logline::{Record, WORDS, put_event};
 use numbers::position::Position;
 use write::Writer;
 
-// The records of the log that are printed, of the events that several calls raised; `last` are the last call's, of which no more than 512 are.
-fn printed_records(log: &[u64], events: u64, last: u64) -> &[Record]
-    ensures { result.now ≡ take (records_of log.now events last) (first_chunks 12 (length log.now / 12) log.now) }
-{
-    let (records, _) = log.as_chunks();
-    let shown = events.saturating_sub(last.saturating_sub(512));
-    if shown < records.len() as u64 {
-        return &records[..shown as usize];
-    }
-    records
-}
+// The numbers of the log for a report, and for its kinds partial and fill: a log holds words.
+const REPORT: u64 = 1;
 
-// What calls print: the line of each record, and `cut` where the last raised more than is printed of it.
-fn put_lines(text: &mut Writer, log: &[u64], events: u64, last: u64)
-    ensures { text.new ≡ written text.old (call_text log.now events last) }
-{
-    let records = printed_records(log, events, last);
-    for words in records {
-        put_event(text, words);
-    }
-    if (records.len() as u64) < events {
-        text.put_bytes(b"cut\n");
-    }
-}
+const PARTIAL: u64 = 4;
 
-// The same from the front of `out` on: how many bytes it is.
-pub fn put_call(out: &mut [u8], log: &[u64], events: u64, last: u64) -> usize
-    ensures { text_at out.new result ≡ texted (text_at out.old 0) (call_text log.now events last) }
-{
-    let mut text = Writer::new(out);
-    put_lines(&mut text, log, events, last);
-    text.len
-}
+const FILL: u64 = 5;
 
 // The lots of a report of kind partial or fill, its `last`; 0 of any other record.
 #[tactic(auto, unfolding(numbers::specs::Choice::pick, crate::specs::Print::filled_lots))]
 fn filled_lots(words: &Record) -> u64
     ensures { result ≡ filled_lots words.now }
 {
-    match (words[0], words[5]) {
-        (1, 4 | 5) => words[10],
+    let [event, _, _, _, _, kind, .., last, _] = *words;
+    match (event, kind) {
+        (REPORT, PARTIAL | FILL) => last,
         _ => 0,
     }
 }
@@ -65,19 +39,54 @@ fn with_lots(sum: u64, records: &[Record]) -> u64
         .fold(sum, u64::saturating_add)
 }
 
-// The lots filled so far, with those of the printed reports of calls.
-pub fn add_filled(sum: u64, log: &[u64], events: u64, last: u64) -> u64
-    ensures { result ≡ filled_after sum log.now events last }
-{
-    with_lots(sum, printed_records(log, events, last))
+// The records that are printed of one call.
+const PRINTED_RECORDS: u64 = 512;
+
+// What several calls raised: the log that has it, how many events it is, and how many of them the last call raised.
+#[derive(Clone, Copy)]
+pub struct Raised<'a> {
+    pub log: &'a [u64],
+    pub events: u64,
+    pub last: u64,
 }
 
-// position P live B S filled F
-#[tactic(auto, using(logline::proofs::LineLaws::pieces), unfolding(crate::specs::Print::last_line))]
-pub fn put_last(out: &mut [u8], position: Position, buy: u64, sell: u64, filled: u64) -> usize
-    ensures { text_at out.new result ≡ texted (text_at out.old 0) (last_line position.lots buy sell filled) }
+impl<'a> Raised<'a> {
+    // The records of the log that are printed: of the last call no more than a call's.
+    fn records(&self) -> &'a [Record]
+        ensures { result.now ≡ take (records_of self.now.log.now self.now.events self.now.last) (first_chunks WORDS (length self.now.log.now / WORDS) self.now.log.now) }
+    {
+        let (records, _) = self.log.as_chunks();
+        let unprinted = self.last.saturating_sub(PRINTED_RECORDS);
+        let shown = self.events.saturating_sub(unprinted) as usize;
+        &records[..shown.min(records.len())]
+    }
+
+    // What calls print: the line of each record, and `cut` where the last raised more than is printed of it.
+    pub fn put_lines(&self, text: &mut Writer)
+        ensures { text.new ≡ written text.old (call_text self.now.log.now self.now.events self.now.last) }
+    {
+        let records = self.records();
+        for words in records {
+            put_event(text, words);
+        }
+        if (records.len() as u64) < self.events {
+            text.put_bytes(b"cut\n");
+        }
+    }
+
+    // The lots filled so far, with those of the printed reports.
+    pub fn add_filled(&self, sum: u64) -> u64
+        ensures { result ≡ filled_after sum self.now.log.now self.now.events self.now.last }
+    {
+        with_lots(sum, self.records())
+    }
+}
+
+// position P live B S filled F: numbers one by one, since what prints stands on nothing of the kernel.
+#[tactic(auto, using(logline::proofs::LineLaws::pieces), unfolding(crate::specs::Print::last_line, write::specs::Write::texted))]
+pub fn put_last(text: &mut Writer, position: Position, buy: u64, sell: u64, filled: u64)
+    ensures { text.new ≡ written text.old (last_line position.lots buy sell filled) }
 {
-    let mut text = Writer::new(out);
     text.put_bytes(b"position ");
     text.put_signed(position.lots);
     text.put_bytes(b" live");
@@ -86,17 +95,14 @@ pub fn put_last(out: &mut [u8], position: Position, buy: u64, sell: u64, filled:
     text.put_bytes(b" filled");
     text.put_field(filled);
     text.put_byte(b'\n');
-    text.len
 }
 
 // bad N
 #[tactic(auto, using(logline::proofs::LineLaws::pieces), unfolding(crate::specs::Print::bad_line))]
-pub fn put_bad(out: &mut [u8], n: u64) -> usize
-    ensures { text_at out.new result ≡ texted (text_at out.old 0) (bad_line n) }
+pub fn put_bad(text: &mut Writer, n: u64)
+    ensures { text.new ≡ written text.old (bad_line n) }
 {
-    let mut text = Writer::new(out);
     text.put_bytes(b"bad");
     text.put_field(n);
     text.put_byte(b'\n');
-    text.len
 }

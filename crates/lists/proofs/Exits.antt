@@ -11,14 +11,13 @@ use lib.Seq.{get_or-take, length-take-le}
 use borrow.Author.Tests.{lt-ltb, le-ltb, le-leb, lt-leb, ltb-true, ltb-false, leb-true}
 use Rattle.std.specs.Borrow.{Bor}
 use Rattle.std.specs.List.{slice_get}
-use Rattle.std.specs.Option.{option_copied, unwrap_or}
+use Rattle.std.specs.Option.{option_copied}
 use Rattle.std.specs.Slice.{IsItemAt}
 use Rattle.std.proofs.lemmas.Option.{slice_get-get_or, slice_get_past, slice_get_read}
 use Rattle.numbers.specs.Choice.{pick}
-use Rattle.lists.specs.Lists.{Put, Taken, put_of, taken_of, found_in, below, live, placed, without, put_at, put_before, taken_at, entry_at, store_at, emptied}
+use Rattle.lists.specs.Lists.{Put, Taken, put_of, taken_of, below, live, placed, without, put_at, taken_at, entry_at, store_at, emptied}
 use Rattle.lists.proofs.Cases.{pick_case, pick_both, some_none, true_false}
-use Rattle.lists.proofs.Loops.{Inserting, insert_done, Removing, remove_done, Emptying, empty_done, push_slots, found_or_end}
-use Rattle.lists.proofs.Totals.{live_below}
+use Rattle.lists.proofs.Loops.{Inserting, insert_done, Removing, remove_done, Emptying, empty_done, push_slots}
 use Rattle.lists.specs.declared.Arr.{Arr}
 use Rattle.lists.specs.declared.Full.{Full}
 
@@ -115,17 +114,6 @@ module _ {A : Type 0} {n : ℕ} (cap : ℕ) (r : Arr A n) where
   empty_in d h k m E =
       let e : length (take r.count r.slots) ≡ r.count = length-take-le r.count r.slots k in
       rw (le-leb _ _ h, empty_done m E, drop_of_length-le (take r.count r.slots) {i = length (take r.count r.slots)} (omega arith), e, append-nil)
-
-  -- ---- an entry goes in before the first that fits: o is what the search found
-  pub put_found : (p : A → Bool) (v : A) {o : Option ℕ} → cap ≤ length r.slots → o ≡ found_in p (live cap r) → put_at cap (unwrap_or o r.count) v r ≡ put_before cap p v r
-  put_found p v {o} k e = rw e (go (ltb r.count cap) refl)
-    where
-      go : (b : Bool) → ltb r.count cap ≡ b → put_at cap (unwrap_or (found_in p (live cap r)) r.count) v r ≡ put_before cap p v r
-      go true q =
-          let w : r.count < cap = ltb-true _ _ q in
-          let m : length (live cap r) ≡ r.count = rw (live_below cap r (omega arith)) (length-take-le r.count r.slots (omega arith)) in
-          ap (λ i. put_at cap i v r) (rw m at (found_or_end p (live cap r)))
-      go false q = let w : cap ≤ r.count = ltb-false _ _ q in sym (put_full _ v w) ∙ put_full _ v w
 
 -- ---- what did not go in, or come out, leaves the list as it was
 module _ {A : Type 0} {n : ℕ} (cap : ℕ) (r : Arr A n) where

@@ -1,4 +1,5 @@
 pub mod Loops
+pub mod Search
 pub mod Exits
 pub mod Cases
 pub mod Sums

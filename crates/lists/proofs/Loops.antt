@@ -1,22 +1,15 @@
 -- The laws of a loop that rewrites or searches a row of slots from the front: what the row is to become stands before place i, what it was from place i on.
 -- Assumes nothing.
-use Rattle.std.specs.Prelude.{Option, Some, None}
 use Prim.Native.Nat.{ℕ, zero, suc, ◌+◌, ◌-◌, ◌≤◌, ◌<◌}
 use mathlib.Core.Path.{◌≡◌, refl, sym, ap, ◌∙◌}
 use mathlib.Core.List.{List, [], ◌∷◌, ◌++◌}
-use mathlib.Core.Bool.{Bool, true, false}
-use native.Mathlib.Nat.{not-suc-le-zero, le_of_suc-le-suc, zero-add}
+use native.Mathlib.Nat.{not-suc-le-zero, le_of_suc-le-suc}
 use native.Mathlib.Numerals.{add-one}
 use native.Mathlib.Omega.{arith}
-use lib.ListN.{length, take, drop, get_or, set, replicate, drop_of_length-le}
+use lib.ListN.{length, take, drop, get_or, set, replicate}
 use Rattle.std.proofs.lemmas.List.{get_or_default}
 use lib.Seq.{drop-cons, get_or-take, length-take-le}
-use borrow.Author.Tests.{lt-ltb, le-ltb, ltb-false}
-use lib.Dec.{ltb}
-use Rattle.std.specs.Option.{unwrap_or}
-use Rattle.numbers.specs.Choice.{pick}
-use Rattle.lists.specs.Lists.{insert_at, remove_at, before, found_in}
-use Rattle.lists.proofs.Cases.{pick_case}
+use Rattle.lists.specs.Lists.{insert_at, remove_at}
 
 module _ {A : Type 0} where
   -- ---- t before place i, s from it on
@@ -211,54 +204,6 @@ module _ {A : Type 0} {d : A} {n : ℕ} {l₀ : List A} where
 
   pub empty_done : {i : ℕ} {l : List A} → n ≤ i → Emptying d n l₀ i l → l ≡ replicate n d ++ drop n l₀
   empty_done {i} h E = let e : i ≡ n = omega arith in E.slots ∙ rw e
-
--- ---- a loop that looks for the first entry that fits: none before place i does
-abbrev pub Searching : {A : Type 0} → (A → Bool) → List A → ℕ → Type 0
-Searching p l i = before p l ≡ i + before p (drop i l)
-
-module _ {A : Type 0} (p : A → Bool) where
-  before_miss : (x : A) (l : List A) → p x ≡ false → before p (x ∷ l) ≡ suc (before p l)
-  unfolding before pick
-  before_miss x l e = rw e
-
-  before_hit : (x : A) (l : List A) → p x ≡ true → before p (x ∷ l) ≡ 0
-  unfolding before pick
-  before_hit x l e = rw e
-
-  before-nil : before p [] ≡ 0
-  unfolding before
-  before-nil = refl
-
-  pub search_begin : (l : List A) → Searching p l 0
-  search_begin l = sym (zero-add (before p l))
-
-  pub search_turn : (l : List A) (i : ℕ) (x : A) → i < length l → x ≡ get_or l i x → p x ≡ false → Searching p l i → Searching p l (i + 1)
-  search_turn l i x h e m S = S ∙ rw (drop-cons l i x h, ← e, before_miss x (drop (suc i) l) m, add-one) (omega arith)
-
-  search_hit : (l : List A) (i : ℕ) (x : A) → i < length l → x ≡ get_or l i x → p x ≡ true → Searching p l i → before p l ≡ i
-  search_hit l i x h e m S = S ∙ rw (drop-cons l i x h, ← e, before_hit x (drop (suc i) l) m) (omega arith)
-
-  search_end : (l : List A) (i : ℕ) → length l ≤ i → i ≤ length l → Searching p l i → before p l ≡ length l
-  search_end l i h k S = S ∙ rw (drop_of_length-le l h, before-nil) (omega arith)
-
-  pub found_hit : (l : List A) (i : ℕ) (x : A) → i < length l → x ≡ get_or l i x → p x ≡ true → Searching p l i → Some i ≡ found_in p l
-  unfolding found_in pick
-  found_hit l i x h e m S = simp (search_hit l i x h e m S, lt-ltb _ _ h)
-
-  pub found_none : (l : List A) (i : ℕ) → length l ≤ i → i ≤ length l → Searching p l i → None ≡ found_in p l
-  unfolding found_in pick
-  found_none l i h k S = simp (search_end l i h k S, le-ltb (length l) (length l) (omega arith))
-
-  pub before_fits : (l : List A) → before p l ≤ length l
-  unfolding before
-  before_fits [] = omega arith
-  before_fits (x ∷ l) = pick_case (λ (k : ℕ). k ≤ suc (length l)) (p x) _ _ (λ _. omega arith) (λ _. omega (arith, before_fits l))
-
-  -- the place that the search found, else the one behind the last
-  pub found_or_end : (l : List A) → unwrap_or (found_in p l) (length l) ≡ before p l
-  unfolding found_in
-  found_or_end l = pick_case (λ (o : Option ℕ). unwrap_or o (length l) ≡ before p l) (ltb (before p l) (length l)) _ _
-      (λ _. refl) (λ e. omega (arith, ltb-false _ _ e, before_fits l))
 
 pub at_place : {A : Type 0} (n : ℕ) (s : List A) (i : ℕ) (d : A) → i < n → n ≤ length s → drop i (take n s) ≡ get_or s i d ∷ drop (suc i) (take n s)
 at_place n s i d h k = drop-cons (take n s) i d (rw length-take-le (omega arith)) ∙ rw get_or-take

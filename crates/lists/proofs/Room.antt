@@ -10,7 +10,7 @@ use borrow.Author.Tests.{lt-ltb, le-leb}
 use Rattle.numbers.specs.Choice.{pick}
 use Rattle.lists.specs.Lists.{live, before, put_at, pushed, put_before}
 use Rattle.lists.proofs.Cases.{pick_case}
-use Rattle.lists.proofs.Loops.{before_fits}
+use Rattle.lists.proofs.Search.{before_fits}
 use Rattle.lists.specs.declared.Arr.{Arr}
 
 module _ {A : Type 0} {n : ℕ} (cap : ℕ) (r : Arr A n) where

@@ -12,7 +12,8 @@ use lib.ListN.{length, take, drop, get_or, set, length-append, length-take, drop
 use lib.Seq.{length-take-le, take_at, take_all, take-nil, take-take, get_or-take, take-set-lt}
 use borrow.Author.Tests.{ltb-true, ltb-false, leb-true, leb-false}
 use lib.Dec.{ltb, leb}
-use Rattle.lists.specs.Lists.{Put, Taken, insert_at, remove_at, before, found_in, below, live, placed, without, put_at, taken_at, entry_at, store_at, total}
+use Rattle.std.proofs.lemmas.List.Quantifiers.{position-Some}
+use Rattle.lists.specs.Lists.{Put, Taken, insert_at, remove_at, found_in, below, live, placed, without, put_at, taken_at, entry_at, store_at, total}
 use Rattle.lists.proofs.Cases.{pick_case}
 use Rattle.lists.proofs.Loops.{insert_at-length, remove_at-length}
 use Rattle.lists.specs.declared.Arr.{Arr}
@@ -193,28 +194,13 @@ module _ {A : Type 0} {n : ℕ} (cap : ℕ) where
 
 -- ---- a search finds what fits, no further than the entries
 module _ {A : Type 0} (p : A → Bool) (d : A) where
-  fits-at : (l : List A) → before p l < length l → p (get_or l (before p l) d) ≡ true
-  unfolding before
-  fits-at [] h = absurd (omega arith)
-  fits-at (x ∷ l) h = pick_case (λ n. n < suc (length l) → p (get_or (x ∷ l) n d) ≡ true) (p x) _ _ (λ e _. e) (λ e g. fits-at l (le_of_suc-le-suc g)) h
-
-  found-fits : (l : List A) (i : ℕ) → found_in p l ≡ Some i → p (get_or l i d) ≡ true
-  unfolding found_in
-  found-fits l i = pick_case (λ o. o ≡ Some i → p (get_or l i d) ≡ true) (ltb (before p l) (length l)) _ _
-      (λ e q. let w : before p l ≡ i = cc in rw w at (fits-at l (ltb-true _ _ e))) (λ e q. let z : ◌≡◌ {A = ℕ} 0 1 = cc in absurd (omega arith))
-
-  found_inside : (l : List A) (i : ℕ) → found_in p l ≡ Some i → i < length l
-  unfolding found_in
-  found_inside l i = pick_case (λ o. o ≡ Some i → i < length l) (ltb (before p l) (length l)) _ _
-      (λ e q. let w : before p l ≡ i = cc in let k : before p l < length l = ltb-true _ _ e in omega arith) (λ e q. let z : ◌≡◌ {A = ℕ} 0 1 = cc in absurd (omega arith))
-
   -- of a list: the count is within the capacity, the place is below the count, and what stands there fits
   pub found-live : {n : ℕ} (cap : ℕ) (r : Arr A n) (i : ℕ) → found_in p (live cap r) ≡ Some i → (r.count ≤ cap) × (i < r.count) × (p (get_or r.slots i d) ≡ true)
-  unfolding live
+  unfolding live found_in
   found-live cap r i =
       pick_case (λ l. found_in p l ≡ Some i → (r.count ≤ cap) × (i < r.count) × (p (get_or r.slots i d) ≡ true)) (leb r.count cap) _ _
       (λ e q.
-      let n = found_inside (below r) i q in
-      let k : i < r.count = omega (arith, length-take r.count r.slots) in
-      (leb-true _ _ e, k, rw (← (get_or-take r.count r.slots i d k)) (found-fits (below r) i q)))
-      (λ e q. absurd (omega (arith, found_inside [] i q)))
+      let n = position-Some p (below r) i d q in
+      let k : i < r.count = omega (arith, n.0, length-take r.count r.slots) in
+      (leb-true _ _ e, k, rw (← (get_or-take r.count r.slots i d k)) n.1))
+      (λ e q. absurd (omega (arith, (position-Some p [] i d q).0)))

@@ -1,8 +1,7 @@
 -- "Every list is a count beside a fixed row of slots": the operations, of any kind of entry. Each is said of the live entries, then of what stands after them.
 -- A count above the capacity, a place past the end and a full list leave the list as it is.
-use Rattle.std.specs.Prelude.{◌≡◌, ℕ, suc, ◌+◌, ◌-◌, Bool, true, false, List, [], ◌∷◌, ◌++◌, ltb, leb, length, take, drop, get_or, set, replicate, is_ok, Option, Some, None, Result}
-use Rattle.std.specs.Fn.{Shared, FnReturnsAt}
-use Rattle.std.specs.Borrow.{Bor}
+use Rattle.std.specs.Prelude.{ℕ, suc, ◌+◌, ◌-◌, Bool, true, false, List, [], ◌∷◌, ◌++◌, ltb, leb, take, drop, get_or, set, replicate, is_ok, Option, Some, None, Result}
+use Rattle.std.specs.List.{position, position_or_len}
 use Rattle.lists.specs.declared.Arr.{Arr}
 use Rattle.lists.specs.declared.Full.{Full}
 use Rattle.numbers.specs.Choice.{pick}
@@ -21,12 +20,9 @@ pub record Taken (A : Type 0) (n : ℕ) : Type 0 where
 abbrev pub put_of : {A : Type 0} {n : ℕ} → Result (Unit {0}) Full → Arr A n → Put A n
 put_of r l = record { ok = is_ok r; list = l }
 
+-- and of one that takes an entry out
 abbrev pub taken_of : {A : Type 0} {n : ℕ} → Option A → Arr A n → Taken A n
 taken_of got l = record { got = got; list = l }
-
--- whatever the test answers of an entry is what p says of it
-abbrev pub Computes : {F A : Type 0} → Shared F (Bor A × Unit {0}) Bool → F → (A → Bool) → Type 0
-Computes {F} {A} g test p = (x : A) (b : Bool) → FnReturnsAt g test x b → b ≡ p x
 
 -- no entry, and n blank slots
 abbrev pub empty : {A : Type 0} (n : ℕ) → A → Arr A n
@@ -43,12 +39,11 @@ module _ {A : Type 0} where
 
   -- the place before the first that fits: how many entries stand there, all of them where none fits
   unfoldable pub before : (A → Bool) → List A → ℕ
-  before p [] = 0
-  before p (x ∷ l) = pick (p x) 0 (suc (before p l))
+  before p l = position_or_len p l
 
   -- the place of the first that fits
   unfoldable pub found_in : (A → Bool) → List A → Option ℕ
-  found_in p l = pick (ltb (before p l) (length l)) (Some (before p l)) None
+  found_in p l = position p l
 
 module _ {A : Type 0} {n : ℕ} where
   -- the slots below the count

@@ -1,10 +1,11 @@
 // A list of fixed capacity: a count beside a fixed row of slots (Arr of book.rs of the Rust), for every kind of entry and every capacity.
 #![tactic(auto)]
 
-ghost use Rattle.std.specs.Prelude.{◌≡◌, Bool};
-ghost use Rattle.lists.specs.Lists.{empty, live, found_in, Computes, put_at, pushed, put_before, put_of, taken_at, popped, taken_of, entry_at, store_at, emptied};
+ghost use Rattle.std.specs.Prelude.{◌≡◌};
+ghost use Rattle.lists.specs.Lists.{empty, live, put_at, pushed, put_of, taken_at, popped, taken_of, entry_at, store_at, emptied};
 
-// A kind of entry. A slot that an entry has left becomes blank.
+// An entry of a list. A slot that an entry has left becomes blank.
+// Beside std's `Default`, which says by a predicate what it may answer: a contract here has to name the one value.
 pub trait Blank: Copy {
     ghost blank: { Self };
 
@@ -12,14 +13,24 @@ pub trait Blank: Copy {
         ensures { result ≡ blank };
 }
 
-// Why an entry did not go in: there is no room, or no such place.
-#[derive(Clone, Copy, PartialEq, Eq)]
+// Why an entry did not go in: there is no room, or no such place. It is not printed: the kernel makes a halt of it.
+#[derive(Clone, Copy, Debug, PartialEq, Eq)]
 pub struct Full;
 
+// An array and its count, as a rule of the project has it: the slots behind the count are part of the state too.
 #[derive(Clone, Copy)]
 pub struct Arr<T, const N: usize> {
     pub slots: [T; N],
     pub count: usize,
+}
+
+// No entry.
+impl<T: Blank, const N: usize> Default for Arr<T, N> {
+    ghost is_default = { λ list. list ≡ empty N T.blank };
+
+    fn default() -> Self {
+        Arr::new()
+    }
 }
 
 impl<T: Blank, const N: usize> Arr<T, N> {
@@ -48,21 +59,8 @@ impl<T: Blank, const N: usize> Arr<T, N> {
         self.as_slice().get(at).copied()
     }
 
-    // The place of the first live entry that the test accepts.
-    pub fn position<F: Fn(&T) -> bool>(&self, test: F) -> Option<usize>
-        requires { F.IsAlwaysCallable test }
-        ensures { (p : T → Bool) → Computes F.Fn test p → result ≡ found_in p (live N self.now) }
-    {
-        for (i, entry) in self.as_slice().iter().enumerate() {
-            if test(entry) {
-                return Some(i);
-            }
-        }
-        None
-    }
-
     // Each entry from the place on moves one slot up: it is carried to its new slot by the one before it.
-    // By places, and not by `copy_within`: that an entry moves by a store of its own is a rule of the project.
+    // By places, and not by `rotate_right`: an entry that moves is one store, and a rotation promises nothing of its stores.
     pub fn insert(&mut self, at: usize, value: T) -> Result<(), Full>
         ensures { put_of result self.new ≡ put_at N at value self.old }
     {
@@ -78,15 +76,6 @@ impl<T: Blank, const N: usize> Arr<T, N> {
         }
         self.count = count + 1;
         Ok(())
-    }
-
-    // Before the first entry that the test accepts, else behind the last.
-    pub fn insert_before<F: Fn(&T) -> bool>(&mut self, value: T, test: F) -> Result<(), Full>
-        requires { F.IsAlwaysCallable test }
-        ensures { (p : T → Bool) → Computes F.Fn test p → put_of result self.new ≡ put_before N p value self.old }
-    {
-        let at = self.position(test).unwrap_or(self.count);
-        self.insert(at, value)
     }
 
     pub fn push(&mut self, value: T) -> Result<(), Full>

@@ -3,14 +3,17 @@
 
 ghost use Rattle.std.specs.Prelude.{◌≡◌};
 ghost use Rattle.write.specs.Write.{written};
-ghost use Rattle.logline.specs.Record.{word, kind_name, report_line, fill_line, short_line, one_line, event_line};
+ghost use Rattle.logline.specs.Record.{kind_name, report_line, fill_line, short_line, one_line, event_line};
 
 use write::Writer;
 
-// The words of a record, as the log has them.
-pub type Record = [u64; 12];
+// How many words a record has. `reports` has the same number for the writer of the log: what prints stands on nothing of the kernel.
+pub const WORDS: usize = 12;
 
-// The name of a report's kind: a log holds words, so here it is a number.
+// The words of a record, as the log has them.
+pub type Record = [u64; WORDS];
+
+// The name of a report's kind. The log holds words, so the kind is the log's own number; an enum would only give it the name that its arm has here.
 #[tactic(auto, unfolding(numbers::specs::Choice::pick, crate::specs::Record::kind_name))]
 fn kind_name(kind: u64) -> &'static [u8]
     ensures { result.now ≡ kind_name kind }
@@ -77,7 +80,7 @@ fn put_one(text: &mut Writer, name: &[u8], words: &Record)
     text.put_byte(b'\n');
 }
 
-// The line of a record of the log.
+// The line of a record of the log. The event is the log's own number, as a report's kind, and its name is at its arm.
 #[tactic(auto, using(crate::proofs::LineLaws::no_line), unfolding(numbers::specs::Choice::pick, crate::specs::Record::line_on, crate::specs::Record::event_line))]
 pub fn put_event(text: &mut Writer, words: &Record)
     ensures { text.new ≡ written text.old (event_line words.now) }
@@ -97,30 +100,13 @@ pub fn put_event(text: &mut Writer, words: &Record)
     }
 }
 
-// A word, 0 past the end.
-fn word(words: &[u64], i: usize) -> u64
-    ensures { result ≡ word words.now i }
-{
-    words.get(i).copied().unwrap_or(0)
-}
-
-// The line of words that may be fewer or more than a record's.
+// The line of words that may be fewer or more than a record's: those that are missing are 0, and those past a record are not read.
+#[tactic(auto, using(crate::proofs::LineLaws::line_padded))]
 pub fn put_words(text: &mut Writer, words: &[u64])
     ensures { text.new ≡ written text.old (event_line words.now) }
 {
-    let record = [
-        word(words, 0),
-        word(words, 1),
-        word(words, 2),
-        word(words, 3),
-        word(words, 4),
-        word(words, 5),
-        word(words, 6),
-        word(words, 7),
-        word(words, 8),
-        word(words, 9),
-        word(words, 10),
-        word(words, 11),
-    ];
+    let n = words.len().min(WORDS);
+    let mut record = [0; WORDS];
+    record[..n].copy_from_slice(&words[..n]);
     put_event(text, &record);
 }

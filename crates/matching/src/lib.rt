@@ -1,4 +1,5 @@
 // Matching a row over the booked orders, and the terminal orders that leave after it (match_row and process_fill of step.rs of the Rust).
+// What a step takes stands apart, as in `reports`.
 #![tactic(auto)]
 
 ghost use Rattle.std.specs.Prelude.{◌≡◌, ◌≤◌, IfOk};
@@ -123,6 +124,7 @@ fn match_at(
 }
 
 // The row over the orders, in list order: a look for each, and no more than there are places. An order that it fills stays where it is.
+// By places: a fill stores the order while the gate, the numbers, the deliveries, the generator and the log change too, so no borrow of the list can stand.
 fn match_orders(
     cfg: &Config,
     row: &KernelTick,
@@ -159,6 +161,7 @@ fn leave(place: usize, s: &mut KernelState) -> Result<(), HaltReason>
 }
 
 // The terminal orders leave: as many looks as orders. Where one left, the next stands at its place.
+// By places, and not by `retain`: an order's leaving can halt, and then those before it have left and those behind it stand.
 fn sweep(s: &mut KernelState) -> Result<(), HaltReason>
     ensures { run_of result s.new ≡ sweep s.old }
 {

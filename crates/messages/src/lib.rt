@@ -1,4 +1,4 @@
-// The venue's messages: the first one leaves, then acts.
+// The venue's messages: the first one leaves, then acts. What a step takes stands apart, as in `reports`.
 #![tactic(auto)]
 
 ghost use Rattle.std.specs.Prelude.{◌≡◌};
@@ -41,6 +41,8 @@ fn expiry_of(s: &KernelState, msg: &VenueMsg) -> Result<Option<u64>, HaltReason>
 }
 
 // The expiry's time, and room for its number, are tested before the message leaves: a halt there leaves it in the queue, and no active order lacks the expiry that its quote asked for.
+// Not inlined: most walks find no message, and would pay at their start for what this one takes.
+#[inline(never)]
 pub fn apply_next_msg(cfg: &Config, s: &mut KernelState, log: &mut Log) -> Result<(), HaltReason>
     ensures { actual (halting result) s.new (log_of log.new) ≡ expected (log_of log.old) (apply_next_msg cfg.now s.old) }
 {

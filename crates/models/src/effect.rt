@@ -7,7 +7,7 @@ ghost use Rattle.models.specs.Rules.{rule_effect};
 use account::{AgentAccount, position};
 use book::{ExecKind, OpenOrder, Origin, ReportRec};
 
-// What a report does to its order's entry: a name of the rules, said of the report alone.
+// What a report does to its order's entry: a name of the rules, which say it of the report alone, so that what is done has one `match` and this has one equation.
 #[derive(Clone, Copy)]
 pub enum Effect {
     Stands,
@@ -40,6 +40,7 @@ fn effect_of(kind: ExecKind, origin: Origin, pending: bool) -> Effect
     }
 }
 
+// The search found the entry, so it is there to be stored to.
 #[tactic(auto, unfolding(rules::specs::Delivery::on_delivery, numbers::specs::Choice::on_some))]
 pub fn on_delivery(account: &mut AgentAccount, report: &ReportRec)
     ensures { account.new ≡ on_delivery report.now account.old }

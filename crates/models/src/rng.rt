@@ -10,7 +10,7 @@ pub struct KernelRng {
     pub state: u64,
 }
 
-// The generator after a draw, with the number drawn.
+// The generator after a draw, with the number drawn: the generator takes itself and hands itself back, as a rule of the project has it.
 #[derive(Clone, Copy)]
 pub struct Drawn {
     pub rng: KernelRng,

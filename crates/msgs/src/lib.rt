@@ -17,19 +17,24 @@ pub type Msgs = Arr<VenueMsg, CAPACITY>;
 pub fn activation(msgs: &Msgs, id: u64) -> Option<usize>
     ensures { result ≡ found_in (is_activation id) (live msgs_capacity msgs.now) }
 {
-    msgs.position(|msg: &VenueMsg| msg.is_activation(id))
+    msgs.as_slice().iter().position(|msg| msg.is_activation(id))
 }
 
 // The first expiry of this order.
 pub fn expiry(msgs: &Msgs, id: u64) -> Option<usize>
     ensures { result ≡ found_in (is_expiry id) (live msgs_capacity msgs.now) }
 {
-    msgs.position(|msg: &VenueMsg| msg.is_expiry(id))
+    msgs.as_slice().iter().position(|msg| msg.is_expiry(id))
 }
 
-// Before the first with a greater pair, else behind the last.
+// Before the first with a greater pair, else behind the last. It differs from `orders::insert_by_id` in the test alone, as is said there.
 pub fn insert_by_key(msgs: &mut Msgs, msg: VenueMsg) -> Result<(), Full>
     ensures { put_of result msgs.new ≡ put_before msgs_capacity (is_later msg.eff_ns msg.seq) msg msgs.old }
 {
-    msgs.insert_before(msg, |other: &VenueMsg| other.is_later(msg.eff_ns, msg.seq))
+    let live = msgs.as_slice();
+    let later = live
+        .iter()
+        .position(|other| other.is_later(msg.eff_ns, msg.seq));
+    let at = later.unwrap_or(live.len());
+    msgs.insert(at, msg)
 }

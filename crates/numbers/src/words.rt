@@ -1,4 +1,5 @@
 // Operations on numbers of 64 bits, named as the Rust names them.
+// Beside std's methods of these names, which say by cases when they answer: here the answer is one equation, as the rules have it, so that a halt needs no case of its own above.
 ghost use Rattle.std.specs.Prelude.{◌≡◌, ◌+◌, ◌*◌, ◌%◌, ◌^◌};
 ghost use Rattle.numbers.specs.Words.{fitting};
 
@@ -16,7 +17,7 @@ pub fn checked_mul(a: u64, b: u64) -> Option<u64>
     a.checked_mul(b)
 }
 
-// The low word of a product: the partial products of 32-bit halves, added with wrapping.
+// The low word of a product: the partial products of 32-bit halves, added with wrapping. By hand, as a rule of the project has it: this is the product of the generator.
 pub fn wrapping_mul(a: u64, b: u64) -> u64
     ensures { result ≡ a * b % 2 ^ 64 }
 {

@@ -17,19 +17,22 @@ pub type Orders = Arr<VenueOrder, CAPACITY>;
 pub fn booked(orders: &Orders, id: u64) -> Option<usize>
     ensures { result ≡ found_in (is_open id) (live orders_capacity orders.now) }
 {
-    orders.position(|order: &VenueOrder| order.is_open(id))
+    orders.as_slice().iter().position(|order| order.is_open(id))
 }
 
 // The first order of this number, whatever its state.
 pub fn position(orders: &Orders, id: u64) -> Option<usize>
     ensures { result ≡ found_in (has_id id) (live orders_capacity orders.now) }
 {
-    orders.position(|order: &VenueOrder| order.id == id)
+    orders.as_slice().iter().position(|order| order.id == id)
 }
 
-// Before the first of a greater number, else behind the last: the Rust's insert_by_id.
+// Before the first of a greater number, else behind the last: the Rust's insert_by_id. It differs from `msgs::insert_by_key` in the test alone; a method that took the test would ask of its caller that it may be called.
 pub fn insert_by_id(orders: &mut Orders, order: VenueOrder) -> Result<(), Full>
     ensures { put_of result orders.new ≡ put_before orders_capacity (id_above order.id) order orders.old }
 {
-    orders.insert_before(order, |other: &VenueOrder| other.id > order.id)
+    let live = orders.as_slice();
+    let above = live.iter().position(|other| other.id > order.id);
+    let at = above.unwrap_or(live.len());
+    orders.insert(at, order)
 }

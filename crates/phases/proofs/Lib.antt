@@ -1,2 +1,3 @@
 mod Exits
+mod Rows
 mod Loop

@@ -1,4 +1,5 @@
 // The phases of a row (advance_inner of step.rs of the Rust).
+// What a step takes, the rows too, stands apart, as in `reports`.
 #![tactic(auto)]
 
 ghost use Rattle.std.specs.Prelude.{◌≡◌};
@@ -16,23 +17,13 @@ use reports::report::delayed;
 use state::{HaltReason, KernelEvent, KernelState, Phase, Status};
 use walk::run_events;
 
-// The row of this number: five words.
-#[tactic(auto, unfolding(rules::specs::Phases::row_at, numbers::specs::Choice::pick))]
+// The row of this number.
 fn row_at(rows: &[u64], index: u64) -> Option<KernelTick>
     ensures { result ≡ row_at rows.now index }
 {
-    let i = index as usize;
-    if i >= rows.len() / 5 {
-        return None;
-    }
-    let at = 5 * i;
-    Some(KernelTick {
-        ts_ns: rows[at],
-        bid: rows[at + 1],
-        bid_lots: rows[at + 2],
-        ask: rows[at + 3],
-        ask_lots: rows[at + 4],
-    })
+    let (rows, _) = rows.as_chunks();
+    let words = rows.get(index as usize)?;
+    Some(KernelTick::from(*words))
 }
 
 // A row's observation comes after a delay, never before an earlier one.
@@ -109,7 +100,7 @@ fn obs_queued(cfg: &Config, rows: &[u64], s: &mut KernelState, log: &mut Log) ->
     next_row(cfg, rows, s, log)
 }
 
-// Runs phase by phase until the run waits for a decision or is over, or a step stops it.
+// Runs phase by phase until the run waits for a decision or is over, or a step stops it. A label leaves the loop, as a rule of the project has it.
 pub fn phases(cfg: &Config, rows: &[u64], s: &mut KernelState, log: &mut Log) -> Result<(), Stop>
     ensures { actual result s.new (log_of log.new) ≡ expected (log_of log.old) (phases cfg.now rows.now s.old) }
 {

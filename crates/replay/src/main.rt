@@ -4,8 +4,8 @@
 ghost use Rattle.std.specs.Prelude.{◌≤◌, length};
 ghost use Rattle.std.specs.Io.{ReadsAtMost};
 
-use book::config::Config;
-use day::{put_end, turns};
+use book::config::{Config, ROW_WORDS};
+use day::{LOG_WORDS, Progress, TEXT_BYTES};
 use lines::put_bad;
 use runtext::read;
 use state::KernelState;
@@ -14,53 +14,55 @@ use std::fs::File;
 use std::io::Read;
 use std::rt::{Env, Files};
 use std::{io, str};
+use write::Writer;
 
-// The first n bytes.
-fn print(rt: &impl Print, out: &[u8], n: usize) -> io::Result<()> {
-    rt.write_all(&out[..n.min(out.len())])
+// Bytes for one line: more than `bad N` or the last line has.
+const LINE_BYTES: usize = 4096;
+
+// What `put` writes, which is a line.
+fn print_line<F: FnOnce(&mut Writer)>(rt: &impl Print, put: F) -> io::Result<()>
+    requires { F.IsAlwaysCallable put }
+{
+    let mut bytes = [0; LINE_BYTES];
+    let mut text = Writer::new(&mut bytes);
+    put(&mut text);
+    rt.write_all(text.as_slice())
 }
 
 fn print_bad(rt: &impl Print, line: u64) -> io::Result<()> {
-    let mut out = [0; 4096];
-    let n = put_bad(&mut out, line);
-    print(rt, &out, n)
+    print_line(rt, |text| put_bad(text, line))
 }
 
-fn print_end(rt: &impl Print, state: &KernelState, filled: u64) -> io::Result<()> {
-    let mut out = [0; 4096];
-    let n = put_end(&mut out, state, filled);
-    print(rt, &out, n)
-}
-
-// The log of a batch is 1,023 records, and the text has room for their lines. A proved loop has to end, so the batches are counted, to more than any run has: each turn but the last pauses at a row's observation, and a run file has at most 512 rows. A run whose lines cannot be written goes no further.
+// A proved loop has to end, so the batches are counted, to more than any run has: each turn but the last pauses at a row's observation, and a run file has at most 512 rows. A run whose lines cannot be written makes no more calls.
 fn run(rt: &impl Print, cfg: &Config, rows: &[u64], start: KernelState) -> io::Result<()> {
-    let mut log = [0; 12276];
-    let mut text = [0; 131072];
-    let mut state = start;
-    let mut filled = 0;
+    let mut log = [0; LOG_WORDS];
+    let mut bytes = [0; TEXT_BYTES];
+    let mut progress = Progress {
+        state: start,
+        filled: 0,
+    };
     for _ in 0..u64::MAX {
-        let t = turns(cfg, rows, state, filled, &mut log, &mut text);
-        state = t.state;
-        filled = t.filled;
-        if print(rt, &text, t.length).is_err() || !t.more {
+        let mut text = Writer::new(&mut bytes);
+        let more = progress.turns(cfg, rows, &mut log, &mut text);
+        if rt.write_all(text.as_slice()).is_err() || !more {
             break;
         }
     }
-    print_end(rt, &state, filled)
+    print_line(rt, |text| progress.put_end(text))
 }
 
 fn replay_text(rt: &impl Print, text: &[u8]) -> io::Result<()> {
-    let mut rows = [0; 2560];
+    let mut rows = [0; runtake::MOST_WORDS];
     match read(text, &mut rows) {
         Ok(script) => {
-            let words = script.rows.saturating_mul(5).min(rows.len());
+            let words = script.rows.saturating_mul(ROW_WORDS).min(rows.len());
             run(rt, &script.cfg, &rows[..words], script.state)
         }
-        Err(bad) => print_bad(rt, bad.line),
+        Err(bad) => print_bad(rt, u64::from(bad.fault)),
     }
 }
 
-// Reads until the text is full or the file ends. It gives how many bytes were read.
+// Reads until the text is full or the file ends. It gives how many bytes were read. By hand: `read_exact` fails where the file ends, and `read_to_end` reads into a heap.
 fn read_full(file: &mut impl Read, text: &mut [u8]) -> io::Result<usize>
     ensures { ReadsAtMost result text.new }
 {
@@ -99,7 +101,7 @@ fn replay(rt: &(impl Files + Print), path: &[u8]) -> io::Result<()> {
     }
 }
 
-// An argument that is longer than the text it is read into is there, too.
+// An argument that is longer than the text it is read into is there, too. One by one, since std's list of them is on the heap, and has no place for a name that is not UTF-8.
 fn has_arg(rt: &impl Env, i: usize) -> bool {
     let mut text = [0; 1];
     !matches!(rt.arg(i, &mut text), Err(FillError::NotPresent))
@@ -107,15 +109,12 @@ fn has_arg(rt: &impl Env, i: usize) -> bool {
 
 // The arguments, with the program's name.
 fn arg_count(rt: &impl Env) -> usize {
-    for i in 0..usize::MAX {
-        if !has_arg(rt, i) {
-            return i;
-        }
-    }
-    usize::MAX
+    (0..usize::MAX)
+        .find(|i| !has_arg(rt, *i))
+        .unwrap_or(usize::MAX)
 }
 
-// The run file that argument i names, under a heading where it is one of several. A name that is too long opens no file.
+// The run file that argument i names, under a heading where it is one of several. A name that is too long opens no file. What cannot be written of a heading is lost, and the file is replayed as any.
 fn replay_arg(rt: &(impl Env + Files + Print), i: usize, several: bool) -> io::Result<()> {
     let mut path = [0; 4096];
     let n = rt.arg(i, &mut path).unwrap_or(0);

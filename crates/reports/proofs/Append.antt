@@ -1,12 +1,11 @@
--- The laws of the log: the copy of an event's words, the part that is lent to its writer, and the events appended one by one. Assumes nothing.
-use mathlib.Core.Path.{◌≡◌, refl, sym, ap, ◌∙◌}
+-- The laws of the log: an event's words, the part that is lent to its writer, and the events appended one by one. Assumes nothing.
+use mathlib.Core.Path.{◌≡◌, refl, sym, ◌∙◌}
 use mathlib.Core.List.{List, [], ◌∷◌, ◌++◌, append-nil, append_assoc}
 use Prim.Native.Nat.{ℕ, suc, ◌+◌, ◌-◌, ◌*◌, ◌/◌, ◌<◌, ◌≤◌, min}
-use native.Mathlib.Numerals.{add-one}
-use native.Mathlib.Nat.{le_of_lt, add-zero, zero-add}
+use native.Mathlib.Nat.{add-zero, zero-add}
 use native.Mathlib.Omega.{arith}
-use lib.ListN.{length, take, drop, set, get_or, length-drop, length-take, length-append, drop_of_length-le, take-append-drop}
-use lib.Seq.{drop-cons, take-suc, set_at, append_snoc, length-take-le, take_all, take_at, drop_at}
+use lib.ListN.{length, take, drop, length-drop, length-take, length-append, drop_of_length-le, take-append-drop}
+use lib.Seq.{take_all, take_at, drop_at}
 use borrow.Author.Tests.{lt-ltb, le-ltb, ltb-true, ltb-false}
 use lib.Dec.{ltb}
 use mir.Val.{Fits}
@@ -17,14 +16,6 @@ use Rattle.state.specs.declared.KernelEvent.{KernelEvent}
 use Rattle.state.specs.declared.KernelEvent.TheVariants.{Report, Fill, Delivered, Observed, RowEnd, EndOfData, Halted, DroppedMsg, Expired, DroppedExpiry}
 use Rattle.rules.specs.Log.{event_words, written}
 use Rattle.reports.specs.Log.{top, Logged, append_event, append_events}
-
--- a turn of the loop that copies s over the front of d
-pub copy_turn : (d s : List ℕ) (j : ℕ) → j < length d → j < length s
-    → set (take j s ++ drop j d) j (get_or s j 0) ≡ take (j + 1) s ++ drop (j + 1) d
-copy_turn d s j hd hs =
-    rw (add-one, drop-cons d j 0, take-suc s j 0)
-    (set_at (take j s) (get_or d j 0) (drop (suc j) d) (get_or s j 0) j (length-take-le j s (le_of_lt hs))
-    ∙ sym (append_snoc (take j s) (get_or s j 0) (drop (suc j) d)))
 
 -- each event takes 12 words
 pub twelve : (e : KernelEvent) → length (event_words e) ≡ 12
@@ -48,11 +39,6 @@ fits_whole l e h = rw (le-ltb (length l) 12 h)
 pub no_room : (l : List ℕ) (e : KernelEvent) → length l < 12 → written l (e ∷ []) ≡ l
 unfolding written pick
 no_room l e h = rw (lt-ltb (length l) 12 h)
-
--- after the copy's last turn
-pub copied : (d w r : List ℕ) (i : ℕ) (e : KernelEvent) → 12 ≤ length d → r ≡ take i w ++ drop i d → i ≡ 12 → w ≡ event_words e → r ≡ written d (e ∷ [])
-copied d w r i e n h hi hw =
-    h ∙ rw (hi, hw, fits_whole d e n) (ap (λ (l : List ℕ). l ++ drop 12 d) (take_all 12 (event_words e) (omega (arith, twelve e))))
 
 -- what a writer that was lent all of xs from a on leaves, said of the whole
 pub lent : (xs ys : List ℕ) (a : ℕ) (e : KernelEvent) → a ≤ length xs → ys ≡ written (take (length xs - a) (drop a xs)) (e ∷ [])

@@ -10,6 +10,7 @@ use Rattle.reports.specs.declared.Stop.{Stop}
 use Rattle.reports.specs.declared.Stop.TheVariants.{Left, Halt, Ended}
 use Rattle.reports.specs.declared.log.Log.{Log}
 
+-- the largest number of 64 bits
 abbrev pub top : ℕ
 top = 18446744073709551615
 
@@ -19,6 +20,7 @@ pub record Logged : Type 0 where
   pub count : ℕ
   pub lender : ℕ
 
+-- the code's log as one
 abbrev pub log_of : Log → Logged
 log_of l = record { words = l.words.now; count = l.raised; lender = l.words.ghost_name }
 
@@ -30,6 +32,7 @@ append_event l e = record {
   lender = l.lender;
 }
 
+-- events one by one
 unfoldable pub append_events : Logged → List KernelEvent → Logged
 append_events l [] = l
 append_events l (e ∷ es) = append_events (append_event l e) es

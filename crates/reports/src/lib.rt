@@ -1,4 +1,5 @@
 // How a step of the kernel goes, the log that it writes, and the reports that it sends (step.rs of the Rust).
+// A step takes the configuration, the state and the log apart, here and in the crates above, as the Rust's functions do: what is only read has no part in what changes, and of a struct of the three each contract would have to say besides that the configuration stays.
 #![tactic(auto)]
 
 pub mod log;
@@ -9,8 +10,8 @@ ghost use Rattle.reports.specs.declared.Stop.TheVariants as stop;
 
 use state::HaltReason;
 
-// Why a step did not run to its end: an observation paused or truncated the run, it halted, or the data ended. What follows it is not done.
-#[derive(Clone, Copy, PartialEq, Eq)]
+// Why a step did not run to its end: an observation paused or truncated the run, it halted, or the data ended. What follows it is not done. It is not printed: the call that it ends answers for it.
+#[derive(Clone, Copy, Debug, PartialEq, Eq)]
 pub enum Stop {
     Left,
     Halt(HaltReason),

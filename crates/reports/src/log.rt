@@ -6,7 +6,7 @@ ghost use Rattle.reports.specs.Log.{log_of, append_event};
 use book::{FillRec, ReportRec};
 use state::KernelEvent;
 
-// The words of a record.
+// The words of a record. A log holds words, so an event is named by its number here.
 pub const WORDS: usize = 12;
 
 // The log that a caller lent, and how many events were raised on it.
@@ -82,15 +82,14 @@ fn event_words(e: KernelEvent) -> [u64; WORDS]
     }
 }
 
-// The writer of one event gets the rest of the log, from the first free word on. An event that does not fit whole is not written.
+// The writer of one event gets the rest of the log, from the first free word on, as a rule of the project has it. An event that does not fit whole is not written.
+#[tactic(auto, using(crate::proofs::Append::fits_whole, crate::proofs::Append::no_room))]
 fn write_event(rest: &mut [u64], e: KernelEvent)
     ensures { rest.new ≡ written rest.old (e ∷ []) }
 {
-    if rest.len() < WORDS {
-        return;
+    if let Some(record) = rest.first_chunk_mut() {
+        *record = event_words(e);
     }
-    let words = event_words(e);
-    rest[..WORDS].copy_from_slice(&words);
 }
 
 impl<'a> Log<'a> {

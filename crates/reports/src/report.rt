@@ -1,4 +1,4 @@
-// Stamps, and a report with its delivery.
+// Stamps, and a report with its delivery. What a step takes stands apart: see the crate's head.
 ghost use Rattle.std.specs.Prelude.{◌≡◌, ℕ, IfOk};
 ghost use Rattle.state.specs.declared.KernelState.{KernelState};
 ghost use Rattle.rules.specs.Run.{Run};
@@ -13,7 +13,7 @@ use models::latency;
 use numbers::words::checked_add;
 use state::{HaltReason, KernelEvent, KernelState};
 
-// The time and the number that a report carries.
+// The time and the number that a report carries. Of which state they are stands in each contract that takes them: a ghost field says what is so of the fields beside it, and cannot hold that state.
 #[derive(Clone, Copy)]
 pub struct Stamped {
     pub ts_ns: u64,

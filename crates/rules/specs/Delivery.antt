@@ -128,7 +128,7 @@ dropped_event m = dropped_by m.kind
 
 -- "empties messages and observations"
 unfoldable pub empty_queues : KernelState → KernelState
-empty_queues s = with_observed (with_msgs s ((emptied msgs_capacity blank_msg s.msgs))) ((emptied observed_capacity blank_obs s.observed))
+empty_queues s = with_observed (with_msgs s (emptied msgs_capacity blank_msg s.msgs)) (emptied observed_capacity blank_obs s.observed)
 
 -- s with no delivery left, and its counts of messages and observations; the counters are tested in order, the lists empty already
 unfoldable pub close_data : KernelState → Run

@@ -16,6 +16,7 @@ use Rattle.numbers.specs.Choice.{pick, on_some}
 use Rattle.book.specs.declared.OrderState.TheVariants.{Submitted}
 use Rattle.book.specs.declared.Side.{Side}
 use Rattle.book.specs.declared.config.FillMode.TheVariants.{Immediate, QueuePosition}
+use Rattle.book.specs.Ticks.{tick_of}
 use Rattle.text.specs.Fields.{number}
 use Rattle.text.proofs.CursorLaws.{first_some, first_none}
 use Rattle.runline.specs.Lines.{number_at, side_of, config_line, queue_line, order_line, cancel_line, row_line}
@@ -82,8 +83,7 @@ module _ (fs : List (List ℕ)) where
   unfolding cancel_line
   cancel_is = all_of 2 _
 
-  pub row_is : row_line fs
-      ≡ on_some (only_numbers 5 fs) (λ w. Some (Row (record { ts_ns = get_or w 0 0; bid = get_or w 1 0; bid_lots = get_or w 2 0; ask = get_or w 3 0; ask_lots = get_or w 4 0 }))) None
+  pub row_is : row_line fs ≡ on_some (only_numbers 5 fs) (λ w. Some (Row (tick_of w))) None
   unfolding row_line
   row_is = all_of 5 _
 

@@ -7,8 +7,8 @@ ghost use Rattle.text.specs.Fields.{fields};
 ghost use Rattle.runline.specs.Lines.{side_of, config_line, fill_line, order_line, cancel_line, row_line, line_of, queue_line};
 ghost use Rattle.runline.specs.Numbers.{numbers, only_numbers};
 
-use book::config::{Config, FillMode, KernelTick};
-use book::{OrderState, Side, VenueOrder};
+use book::config::{Config, FillMode, KernelTick, ROW_WORDS};
+use book::{Side, VenueOrder};
 use text::Fields;
 
 #[derive(Clone, Copy)]
@@ -108,11 +108,9 @@ fn order_line(fields: &mut Fields) -> Option<Line>
         id,
         price,
         qty,
-        filled: 0,
         active_after_ns,
         side,
-        state: OrderState::Submitted,
-        cancel_inflight: false,
+        ..VenueOrder::default()
     };
     Some(Line::Order { order, life })
 }
@@ -129,14 +127,8 @@ fn cancel_line(fields: &mut Fields) -> Option<Line>
 fn row_line(fields: &mut Fields) -> Option<Line>
     ensures { result ≡ row_line (left fields.old) }
 {
-    let [ts_ns, bid, bid_lots, ask, ask_lots] = only_numbers::<5>(fields)?;
-    Some(Line::Row(KernelTick {
-        ts_ns,
-        bid,
-        bid_lots,
-        ask,
-        ask_lots,
-    }))
+    let words = only_numbers::<ROW_WORDS>(fields)?;
+    Some(Line::Row(KernelTick::from(words)))
 }
 
 // What a line says, wherever it stands, or none of a bad line. Its first field is its letter.

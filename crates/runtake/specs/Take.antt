@@ -1,6 +1,5 @@
 -- A line of a run file behind others: the order in which they may stand, the limits, and what each leaves. A bad line gives none, and changes nothing.
-use Rattle.std.specs.Prelude.{ℕ, ◌+◌, ◌*◌, Bool, true, false, List, map, ltb, eqb, set, Option, Some, None, Result, Ok, Err}
-use Rattle.std.specs.Option.{option_map}
+use Rattle.std.specs.Prelude.{◌≡◌, OnErr, ℕ, ◌+◌, ◌*◌, Bool, true, false, List, map, ltb, eqb, set, Option, Some, None, Result, Ok, Err}
 use Rattle.numbers.specs.Choice.{pick, on_some}
 use Rattle.numbers.specs.Words.{fits}
 use Rattle.lists.specs.Lists.{Put, pushed, put_before}
@@ -8,7 +7,7 @@ use Rattle.lists.specs.declared.Arr.{Arr}
 use Rattle.book.specs.Capacities.{msgs_capacity, account_capacity}
 use Rattle.book.specs.Entries.{on_side, is_later}
 use Rattle.msgs.specs.Rows.{Msgs, empty_msgs}
-use Rattle.account.specs.Rows.{empty_agent_account}
+use Rattle.account.specs.Rows.{AgentAccount, empty_agent_account}
 use Rattle.book.specs.declared.MsgKind.{MsgKind}
 use Rattle.book.specs.declared.MsgKind.TheVariants.{Cancel, Activate, Expire}
 use Rattle.book.specs.declared.Side.{Side}
@@ -24,16 +23,31 @@ use Rattle.runline.specs.declared.Line.{Line}
 use Rattle.runline.specs.declared.Line.TheVariants as line
 use Rattle.runtake.specs.declared.BadLine.{BadLine}
 use Rattle.runtake.specs.declared.Lots.{Lots}
-use Rattle.runtake.specs.declared.Reading.{Reading}
+use Rattle.runtake.specs.declared.Reading as code
+
+-- what the lines so far have said, and the words that the rows were read into
+pub record Reading : Type 0 where
+  pub cfg : Config
+  pub seed : ℕ
+  pub lots : Lots
+  pub msgs : Msgs
+  pub account : AgentAccount
+  pub words : List ℕ
+  pub rows : ℕ
+
+-- the same of the code's, whose words are lent
+abbrev pub reading_of : code.Reading → Reading
+reading_of r = record { cfg = r.cfg; seed = r.seed; lots = r.lots; msgs = r.msgs; account = r.account; words = r.words.now; rows = r.rows }
 
 -- before the first line
-abbrev pub blank_reading : Reading
-blank_reading = record {
+abbrev pub blank_reading : List ℕ → Reading
+blank_reading w = record {
   cfg = record { quantum_ns = 0; observation_q = 0; ack_q = 0; jitter_q = 0; s_max = 0; fill = Immediate };
   seed = 0;
   lots = record { buy = 0; sell = 0 };
   msgs = empty_msgs;
   account = empty_agent_account;
+  words = w;
   rows = 0;
 }
 
@@ -42,10 +56,16 @@ abbrev pub taken : {A : Type 0} → Result (Unit {0}) BadLine → A → Option A
 taken (Ok v) x = Some x
 taken (Err e) x = None
 
+-- what the code does with a line of which o is to come: it leaves that, or on an error all as it was; and the words are those that were lent
+abbrev pub Takes : Result (Unit {0}) BadLine → code.Reading → code.Reading → Option Reading → Type 0
+Takes result old new o = (taken result (reading_of new) ≡ o) × OnErr result (new ≡ old) × (new.words.ghost_name ≡ old.words.ghost_name)
+
 -- ---- the line behind n others: "First `c`"; "`f`"; "then any of `o` .. and `x`"; "then `r` rows"
+-- the first line
 unfoldable pub take_config : ℕ → Config → ℕ → Reading → Option Reading
 take_config n cfg seed r = pick (eqb n 0) (Some (record r { cfg = cfg; seed = seed })) None
 
+-- the second line
 unfoldable pub take_fill : ℕ → FillMode → Reading → Option Reading
 take_fill n f r = pick (eqb n 1) (Some (record r { cfg = record r.cfg { fill = f } })) None
 
@@ -82,51 +102,43 @@ take_order n o life r =
 abbrev pub in_flight : VenueOrder → VenueOrder
 in_flight o = record o { cancel_inflight = true }
 
+-- the same of what a message is to do
 abbrev pub marked_kind : ℕ → MsgKind → MsgKind
 marked_kind id (Cancel i) = Cancel i
 marked_kind id (Activate o life) = pick (eqb o.id id) (Activate (in_flight o) life) (Activate o life)
 marked_kind id (Expire i) = Expire i
 
+-- of a message
 unfoldable pub marked : ℕ → VenueMsg → VenueMsg
 marked id m = record m { kind = marked_kind id m.kind }
 
+-- and of all that are queued
 unfoldable pub marked_in : ℕ → Msgs → Msgs
 marked_in id l = record l { slots = map (marked id) l.slots }
 
+-- an `x` line: it marks, and is queued
 unfoldable pub take_cancel : ℕ → ℕ → ℕ → Reading → Option Reading
 take_cancel n eff id r =
     pick (is_message_due n r.rows)
     (on_some (queued eff (Cancel id) (marked_in id r.msgs)) (λ msgs. Some (record r { msgs = msgs })) None)
     None
 
--- what was read, and the words that the rows were read into
-pub record Taken : Type 0 where
-  pub reading : Reading
-  pub words : List ℕ
-
--- what the code leaves of both
-abbrev pub taken_words : Result (Unit {0}) BadLine → Reading → List ℕ → Option Taken
-taken_words result r w = taken result (record { reading = r; words = w })
-
 -- the words w, with those of the row behind n others
 abbrev pub row_stored : KernelTick → ℕ → List ℕ → List ℕ
 row_stored t n w = set (set (set (set (set w (n * 5) t.ts_ns) (n * 5 + 1) t.bid) (n * 5 + 2) t.bid_lots) (n * 5 + 3) t.ask) (n * 5 + 4) t.ask_lots
 
 -- "`r` rows, at most 512"
-unfoldable pub take_row : ℕ → KernelTick → Reading → List ℕ → Option Taken
-take_row n t r w = pick (ltb n 2) None (pick (ltb r.rows 512) (Some (record { reading = record r { rows = r.rows + 1 }; words = row_stored t r.rows w })) None)
+unfoldable pub take_row : ℕ → KernelTick → Reading → Option Reading
+take_row n t r = pick (ltb n 2) None (pick (ltb r.rows 512) (Some (record r { words = row_stored t r.rows r.words; rows = r.rows + 1 })) None)
 
--- a line above the rows leaves their words as they are
-abbrev pub above_rows : Option Reading → List ℕ → Option Taken
-above_rows o w = option_map (λ r. record { reading = r; words = w }) o
-
-unfoldable pub take_line : ℕ → Line → Reading → List ℕ → Option Taken
-take_line n (line.Config cfg seed) r w = above_rows (take_config n cfg seed r) w
-take_line n (line.Fill f) r w = above_rows (take_fill n f r) w
-take_line n (line.Order o life) r w = above_rows (take_order n o life r) w
-take_line n (line.Cancel eff id) r w = above_rows (take_cancel n eff id r) w
-take_line n (line.Row t) r w = take_row n t r w
+-- a line of any kind
+unfoldable pub take_line : ℕ → Line → Reading → Option Reading
+take_line n (line.Config cfg seed) r = take_config n cfg seed r
+take_line n (line.Fill f) r = take_fill n f r
+take_line n (line.Order o life) r = take_order n o life r
+take_line n (line.Cancel eff id) r = take_cancel n eff id r
+take_line n (line.Row t) r = take_row n t r
 
 -- a line as the text has it
-unfoldable pub take_text : ℕ → List ℕ → Reading → List ℕ → Option Taken
-take_text n l r w = on_some (line_of (fields l)) (λ line. take_line n line r w) None
+unfoldable pub take_text : ℕ → List ℕ → Reading → Option Reading
+take_text n l r = on_some (line_of (fields l)) (λ line. take_line n line r) None

@@ -2,24 +2,25 @@
 #![tactic(auto)]
 
 ghost use Rattle.std.specs.Prelude.{◌≡◌, OnErr, map};
-ghost use Rattle.runtake.specs.Take.{blank_reading, taken, taken_words, reserved, is_message_due, queued, marked, take_config, take_fill, take_order, take_cancel, take_row, take_line};
+ghost use Rattle.runtake.specs.Take.{reading_of, blank_reading, taken, Takes, reserved, is_message_due, queued, marked, take_config, take_fill, take_order, take_cancel, take_row, take_line};
 
 use account::AgentAccount;
-use book::config::{Config, FillMode, KernelTick};
+use book::config::{Config, FillMode, KernelTick, ROW_WORDS};
 use book::{MsgKind, OpenOrder, Side, VenueMsg, VenueOrder};
 use lists::Full;
 use msgs::{Msgs, insert_by_key};
 use runline::Line;
 
-// The most rows of a run file, the words of one, and the words of all.
+// The first lines of a run file, its configuration and its fill mode: all others stand behind both.
+pub const HEAD_LINES: u64 = 2;
+
+// The most rows of a run file, and the words of all.
 const MOST_ROWS: usize = 512;
 
-const ROW_WORDS: usize = 5;
+pub const MOST_WORDS: usize = MOST_ROWS * ROW_WORDS;
 
-pub const WORDS: usize = MOST_ROWS * ROW_WORDS;
-
-// A line that may not stand where it stands, or is one too many.
-#[derive(Clone, Copy, PartialEq, Eq)]
+// A line that may not stand where it stands, or is one too many. What is printed of it is its number.
+#[derive(Clone, Copy, Debug, PartialEq, Eq)]
 pub struct BadLine;
 
 impl From<Full> for BadLine {
@@ -29,7 +30,7 @@ impl From<Full> for BadLine {
 }
 
 // The lots of each side, all quantities together within 64 bits.
-#[derive(Clone, Copy)]
+#[derive(Clone, Copy, Default)]
 pub struct Lots {
     pub buy: u64,
     pub sell: u64,
@@ -87,44 +88,39 @@ fn mark_all(msgs: &mut [VenueMsg], id: u64)
     }
 }
 
-// What the lines so far have said. The rows stand in what the caller lent.
-#[derive(Clone, Copy)]
-pub struct Reading {
+// What the lines so far have said. The rows stand in the front of the words that the caller lent: both are fields here. With a struct of the two within this one the proof did not close that the words come back to the caller.
+#[derive(Drop)]
+pub struct Reading<'a> {
     pub cfg: Config,
     pub seed: u64,
     pub lots: Lots,
     pub msgs: Msgs,
     pub account: AgentAccount,
+    pub words: &'a mut [u64; MOST_WORDS],
     pub rows: usize,
 }
 
-// Each line stands behind n others. A bad one changes nothing: what can fail comes first, or goes on a copy.
-impl Reading {
+// Each line stands behind n others, as the caller counts them: its text bounds n, and a count in here would have no bound. A bad line changes nothing: what can fail comes first, or goes on a copy.
+impl<'a> Reading<'a> {
     // Before the first line.
-    pub fn new() -> Reading
-        ensures { result ≡ blank_reading }
+    pub fn new(words: &'a mut [u64; MOST_WORDS]) -> Reading<'a>
+        ensures blank { reading_of result ≡ blank_reading words.old }
+        ensures lent { result.words.ghost_name ≡ words.entry.ghost_name }
     {
         Reading {
-            cfg: Config {
-                quantum_ns: 0,
-                observation_q: 0,
-                ack_q: 0,
-                jitter_q: 0,
-                s_max: 0,
-                fill: FillMode::Immediate,
-            },
+            cfg: Config::default(),
             seed: 0,
-            lots: Lots { buy: 0, sell: 0 },
+            lots: Lots::default(),
             msgs: Msgs::new(),
             account: AgentAccount::new(),
+            words,
             rows: 0,
         }
     }
 
     #[tactic(auto, using(std::proofs::lemmas::Bool::Decides::nat_tests), unfolding(crate::specs::Take::take_config, numbers::specs::Choice::pick))]
     fn take_config(&mut self, n: u64, cfg: Config, seed: u64) -> Result<(), BadLine>
-        ensures takes { taken result self.new ≡ take_config n cfg seed self.old }
-        ensures keeps { OnErr result (self.new ≡ self.old) }
+        ensures { Takes result self.old self.new (take_config n cfg seed (reading_of self.old)) }
     {
         if n != 0 {
             return Err(BadLine);
@@ -136,8 +132,7 @@ impl Reading {
 
     #[tactic(auto, using(std::proofs::lemmas::Bool::Decides::nat_tests), unfolding(crate::specs::Take::take_fill, numbers::specs::Choice::pick))]
     fn take_fill(&mut self, n: u64, fill: FillMode) -> Result<(), BadLine>
-        ensures takes { taken result self.new ≡ take_fill n fill self.old }
-        ensures keeps { OnErr result (self.new ≡ self.old) }
+        ensures { Takes result self.old self.new (take_fill n fill (reading_of self.old)) }
     {
         if n != 1 {
             return Err(BadLine);
@@ -151,14 +146,13 @@ impl Reading {
     fn is_message_due(&self, n: u64) -> bool
         ensures { result ≡ is_message_due n self.now.rows }
     {
-        n >= 2 && self.rows == 0
+        n >= HEAD_LINES && self.rows == 0
     }
 
     // An order's lots are reserved, its account opened and its activation queued.
     #[tactic(auto, unfolding(crate::specs::Take::take_order, numbers::specs::Choice::pick, numbers::specs::Choice::on_some))]
     fn take_order(&mut self, n: u64, order: VenueOrder, life: u64) -> Result<(), BadLine>
-        ensures takes { taken result self.new ≡ take_order n order life self.old }
-        ensures keeps { OnErr result (self.new ≡ self.old) }
+        ensures { Takes result self.old self.new (take_order n order life (reading_of self.old)) }
     {
         if !self.is_message_due(n) {
             return Err(BadLine);
@@ -179,8 +173,7 @@ impl Reading {
     // Each earlier order of the cancel's number has it in flight, and it is queued.
     #[tactic(auto, unfolding(crate::specs::Take::take_cancel, crate::specs::Take::marked_in, numbers::specs::Choice::pick, numbers::specs::Choice::on_some))]
     fn take_cancel(&mut self, n: u64, eff_ns: u64, id: u64) -> Result<(), BadLine>
-        ensures takes { taken result self.new ≡ take_cancel n eff_ns id self.old }
-        ensures keeps { OnErr result (self.new ≡ self.old) }
+        ensures { Takes result self.old self.new (take_cancel n eff_ns id (reading_of self.old)) }
     {
         if !self.is_message_due(n) {
             return Err(BadLine);
@@ -194,42 +187,30 @@ impl Reading {
 
     // The row's words are stored behind those of the other rows.
     #[tactic(auto, using(std::proofs::lemmas::Bool::Decides::nat_tests), unfolding(crate::specs::Take::take_row, numbers::specs::Choice::pick))]
-    fn take_row(
-        &mut self,
-        n: u64,
-        tick: KernelTick,
-        words: &mut [u64; WORDS],
-    ) -> Result<(), BadLine>
-        ensures takes { taken_words result self.new words.new ≡ take_row n tick self.old words.old }
-        ensures keeps { OnErr result (self.new ≡ self.old) }
-        ensures words { OnErr result (words.new ≡ words.old) }
+    fn take_row(&mut self, n: u64, tick: KernelTick) -> Result<(), BadLine>
+        ensures { Takes result self.old self.new (take_row n tick (reading_of self.old)) }
     {
-        if n < 2 || self.rows >= MOST_ROWS {
+        if n < HEAD_LINES || self.rows >= MOST_ROWS {
             return Err(BadLine);
         }
         let at = self.rows * ROW_WORDS;
-        words[at] = tick.ts_ns;
-        words[at + 1] = tick.bid;
-        words[at + 2] = tick.bid_lots;
-        words[at + 3] = tick.ask;
-        words[at + 4] = tick.ask_lots;
+        let words = &mut *self.words;
+        words[at..at + ROW_WORDS].copy_from_slice(&<[u64; ROW_WORDS]>::from(tick));
         self.rows += 1;
         Ok(())
     }
 
-    // A line of any kind. The words of a row go to those that the caller lent.
+    // A line of any kind.
     #[tactic(auto, unfolding(crate::specs::Take::take_line))]
-    pub fn take_line(&mut self, n: u64, line: Line, words: &mut [u64; WORDS]) -> Result<(), BadLine>
-        ensures takes { taken_words result self.new words.new ≡ take_line n line self.old words.old }
-        ensures keeps { OnErr result (self.new ≡ self.old) }
-        ensures words { OnErr result (words.new ≡ words.old) }
+    pub fn take_line(&mut self, n: u64, line: Line) -> Result<(), BadLine>
+        ensures { Takes result self.old self.new (take_line n line (reading_of self.old)) }
     {
         match line {
             Line::Config { cfg, seed } => self.take_config(n, cfg, seed),
             Line::Fill(fill) => self.take_fill(n, fill),
             Line::Order { order, life } => self.take_order(n, order, life),
             Line::Cancel { eff_ns, id } => self.take_cancel(n, eff_ns, id),
-            Line::Row(tick) => self.take_row(n, tick, words),
+            Line::Row(tick) => self.take_row(n, tick),
         }
     }
 }

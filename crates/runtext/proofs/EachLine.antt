@@ -1,5 +1,5 @@
 -- What is so of the start of every run text: what holds before the first line, and is kept by each, holds of all that was read. Assumes nothing.
-use Rattle.std.specs.Prelude.{Option, Some, None, IfSome}
+use Rattle.std.specs.Prelude.{Option, None, IfSome}
 use Rattle.std.proofs.lemmas.Option.{MatchOption-at_some}
 use Prim.Native.Nat.{ℕ, zero, suc, ◌+◌}
 use mathlib.Core.List.{List, [], ◌∷◌, map}
@@ -25,12 +25,11 @@ use Rattle.state.specs.declared.KernelState.{KernelState}
 use Rattle.rules.specs.Conservation.{of_side}
 use Rattle.text.specs.Fields.{fields}
 use Rattle.runline.specs.Lines.{line_of}
-use Rattle.runtake.specs.Take.{blank_reading, take_config, take_fill, reserved, put_in, queued, take_order, in_flight, marked_kind, marked, marked_in, take_cancel, Taken, take_row, above_rows, take_line, take_text}
+use Rattle.runtake.specs.Take.{Reading, blank_reading, take_config, take_fill, reserved, put_in, queued, take_order, in_flight, marked_kind, marked, marked_in, take_cancel, take_row, take_line, take_text}
 use Rattle.runtext.specs.Read.{start_state, script_of, Read, closing, read_parts, read_lines, read_text}
 use Rattle.runline.specs.declared.Line.{Line}
 use Rattle.runline.specs.declared.Line.TheVariants as line
 use Rattle.runtake.specs.declared.Lots.{Lots}
-use Rattle.runtake.specs.declared.Reading.{Reading}
 use Rattle.runtext.proofs.Unfilled.{Unfilled, line_unfilled}
 
 -- ---- marks: what goes by a message's kind, and not by the mark of the order that it carries, adds up to as much
@@ -97,29 +96,21 @@ Keeps C o = IfSome o (Of C)
 
 module _ (C : Msgs → Lots → AgentAccount → Type 0) (S : KernelState → Type 0)
     (starts : (r : Reading) → Of C r → S (start_state r))
-    (blank : Of C blank_reading)
+    (blank : (words : List ℕ) → Of C (blank_reading words))
     (order : (n : ℕ) (o : VenueOrder) (life : ℕ) (r : Reading) → o.filled ≡ 0 → Of C r → Keeps C (take_order n o life r))
     (cancel : (n eff id : ℕ) (r : Reading) → Of C r → Keeps C (take_cancel n eff id r)) where
-  abbrev Still : Option Taken → Type 0
-  Still o = IfSome o (λ t. Of C t.reading)
-
-  -- above the rows
-  above_keeps : (o : Option Reading) (w : List ℕ) → Keeps C o → Still (above_rows o w)
-  above_keeps None w h = tt
-  above_keeps (Some r) w h = h
-
   -- every line; all but `o` and `x` leave messages, lots and account as they are
-  line_keeps : (n : ℕ) (l : Line) (r : Reading) (w : List ℕ) → Unfilled l → Of C r → Still (take_line n l r w)
+  line_keeps : (n : ℕ) (l : Line) (r : Reading) → Unfilled l → Of C r → Keeps C (take_line n l r)
   unfolding take_line take_config take_fill take_row Unfilled
-  line_keeps n (line.Config cfg seed) r w u h = above_keeps _ w (pick_case (Keeps C) _ _ _ (λ _. h) (λ _. tt))
-  line_keeps n (line.Fill f) r w u h = above_keeps _ w (pick_case (Keeps C) _ _ _ (λ _. h) (λ _. tt))
-  line_keeps n (line.Order o life) r w u h = above_keeps _ w (order n o life r u h)
-  line_keeps n (line.Cancel eff id) r w u h = above_keeps _ w (cancel n eff id r h)
-  line_keeps n (line.Row t) r w u h = pick_case Still _ _ _ (λ _. tt) (λ _. pick_case Still _ _ _ (λ _. h) (λ _. tt))
+  line_keeps n (line.Config cfg seed) r u h = pick_case (Keeps C) _ _ _ (λ _. h) (λ _. tt)
+  line_keeps n (line.Fill f) r u h = pick_case (Keeps C) _ _ _ (λ _. h) (λ _. tt)
+  line_keeps n (line.Order o life) r u h = order n o life r u h
+  line_keeps n (line.Cancel eff id) r u h = cancel n eff id r h
+  line_keeps n (line.Row t) r u h = pick_case (Keeps C) _ _ _ (λ _. tt) (λ _. pick_case (Keeps C) _ _ _ (λ _. h) (λ _. tt))
 
-  text_keeps : (n : ℕ) (l : List ℕ) (r : Reading) (w : List ℕ) → Of C r → Still (take_text n l r w)
+  text_keeps : (n : ℕ) (l : List ℕ) (r : Reading) → Of C r → Keeps C (take_text n l r)
   unfolding take_text
-  text_keeps n l r w h = some_case Still (line_of (fields l)) _ _ (λ x e. line_keeps n x r w (line_unfilled (fields l) x e) h) (λ _. tt)
+  text_keeps n l r h = some_case (Keeps C) (line_of (fields l)) _ _ (λ x e. line_keeps n x r (line_unfilled (fields l) x e) h) (λ _. tt)
 
   -- what was read starts so
   abbrev Starts : Read → Type 0
@@ -130,21 +121,21 @@ module _ (C : Msgs → Lots → AgentAccount → Type 0) (S : KernelState → Ty
   script_starts r h = starts r h
 
   -- at the end of the text
-  closing_starts : (n : ℕ) (r : Reading) (w l : List ℕ) → Of C r → Starts (closing n r w l)
+  closing_starts : (n : ℕ) (r : Reading) (l : List ℕ) → Of C r → Starts (closing n r l)
   unfolding closing
-  closing_starts n r w l h = pick_case Starts _ _ _ (λ _. pick_case Starts _ _ _ (λ _. script_starts r h) (λ _. script_starts r h)) (λ _. script_starts r h)
+  closing_starts n r l h = pick_case Starts _ _ _ (λ _. pick_case Starts _ _ _ (λ _. script_starts r h) (λ _. script_starts r h)) (λ _. script_starts r h)
 
   -- line by line, up to the first bad one
-  parts-start : (n : ℕ) (r : Reading) (w : List ℕ) (ls : List (List ℕ)) → Of C r → Starts (read_parts n r w ls)
+  parts-start : (n : ℕ) (r : Reading) (ls : List (List ℕ)) → Of C r → Starts (read_parts n r ls)
   unfolding read_parts
-  parts-start n r w [] h = closing_starts n r w [] h
-  parts-start n r w (l ∷ ls) h =
-      pick_case Starts _ _ _ (λ _. closing_starts n r w l h)
-      (λ _. some_case Starts (take_text n l r w) _ _
-      (λ t e. parts-start (n + 1) t.reading t.words ls (MatchOption-at_some _ (λ (t : Taken). Of C t.reading) t e (text_keeps n l r w h)))
+  parts-start n r [] h = closing_starts n r [] h
+  parts-start n r (l ∷ ls) h =
+      pick_case Starts _ _ _ (λ _. closing_starts n r l h)
+      (λ _. some_case Starts (take_text n l r) _ _
+      (λ t e. parts-start (n + 1) t ls (MatchOption-at_some _ (Of C) t e (text_keeps n l r h)))
       (λ _. script_starts r h))
 
   -- every text, bad ones included: a bad line changes nothing
   pub text_starts : (text words : List ℕ) → S (read_text text words).script.state
   unfolding read_text read_lines
-  text_starts text words = pick_case Starts _ _ _ (λ _. parts-start 0 blank_reading words _ blank) (λ _. script_starts blank_reading blank)
+  text_starts text words = pick_case Starts _ _ _ (λ _. parts-start 0 (blank_reading words) _ (blank words)) (λ _. script_starts (blank_reading words) (blank words))

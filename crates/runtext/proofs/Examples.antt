@@ -19,9 +19,8 @@ use Rattle.rules.proofs.Sample.{config, start, rows}
 use Rattle.text.specs.Bytes.{bytes}
 use Rattle.text.specs.Fields.{parted, are_digits, value, number}
 use Rattle.runline.specs.Lines.{side_of, config_line, queue_line, fill_line, order_line, cancel_line, row_line, line_of}
-use Rattle.runtake.specs.Take.{blank_reading, take_config, take_fill, is_message_due, reserved, queued, take_order, marked, marked_in, take_cancel, take_row, take_line, take_text}
+use Rattle.runtake.specs.Take.{Reading, blank_reading, take_config, take_fill, is_message_due, reserved, queued, take_order, marked, marked_in, take_cancel, take_row, take_line, take_text}
 use Rattle.runtext.specs.Read.{seeded, start_state, script_of, Read, closing, read_parts, read_lines, read_text}
-use Rattle.runtake.specs.declared.Reading.{Reading}
 
 -- with room for the words of 512 rows, as `replay` lends it
 abbrev pub read : String → Read
@@ -56,7 +55,7 @@ brief : VenueMsg → Queued
 brief m = record { eff = m.eff_ns; seq = m.seq; mark = is_marked m.kind }
 
 full : ℕ → Reading
-full n = record { cfg = blank_reading.cfg; seed = 0; lots = blank_reading.lots; msgs = blank_reading.msgs; account = blank_reading.account; rows = n }
+full n = record (blank_reading []) { rows = n }
 
 tick : KernelTick
 tick = record { ts_ns = 1; bid = 1; bid_lots = 1; ask = 1; ask_lots = 1 }
@@ -76,7 +75,7 @@ examples :
     × (map (λ s. bad_of (from s)) (times 8 "o 1 1 B 1 1 0\n" ∷ times 9 "o 1 1 B 1 1 0\n" ∷ times 16 "x 1 1\n" ∷ times 17 "x 1 1\n" ∷ "o 1 1 B 1 18446744073709551615 0\n" ∷ "o 1 1 B 1 18446744073709551615 0\no 1 1 S 1 1 0\n" ∷ [])
     ≡ None ∷ Some 11 ∷ None ∷ Some 19 ∷ None ∷ Some 4 ∷ [])
     -- 512 rows and one more
-    × (map (λ n. is_some (take_row 2 tick (full n) [])) (511 ∷ 512 ∷ []) ≡ true ∷ false ∷ [])
+    × (map (λ n. is_some (take_row 2 tick (full n))) (511 ∷ 512 ∷ []) ≡ true ∷ false ∷ [])
     -- an x marks the orders before it, by line and not by time; each line takes the next number
     × (map brief (take 3 (read (from "o 9 7 B 1 1 0\nx 5 7\no 3 7 S 1 1 0\n")).script.state.msgs.slots)
     ≡ record { eff = 3; seq = 2; mark = false } ∷ record { eff = 5; seq = 1; mark = false } ∷ record { eff = 9; seq = 0; mark = true } ∷ [])

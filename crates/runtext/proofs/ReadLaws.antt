@@ -12,8 +12,7 @@ use borrow.Author.Tests.{le-leb, lt-leb}
 use Rattle.numbers.specs.Choice.{pick, on_some}
 use Rattle.text.specs.Fields.{parted, parted_once}
 use Rattle.text.proofs.PartedLaws.{parted_some, once_none, once_some}
-use Rattle.runtake.specs.Take.{Taken, take_text}
-use Rattle.runtake.specs.declared.Reading.{Reading}
+use Rattle.runtake.specs.Take.{Reading, take_text}
 use Rattle.runtext.specs.Read.{is_empty, closing, good, bad_at, read_parts, read_lines}
 
 parts_there : (l : List ℕ) → is_empty (parted 10 l) ≡ false
@@ -23,46 +22,46 @@ parts_there l = go (parted 10 l) (parted_some 10 l)
     go [] h = absurd (omega arith)
     go (p ∷ ps) h = refl
 
-closing_is : (n : ℕ) (r : Reading) (w l : List ℕ) → closing n r w l ≡ pick (eqb (length l) 0 && leb 2 n) (good r w) (bad_at (n + 1) r w)
+closing_is : (n : ℕ) (r : Reading) (l : List ℕ) → closing n r l ≡ pick (eqb (length l) 0 && leb 2 n) (good r) (bad_at (n + 1) r)
 unfolding closing pick
-closing_is n r w [] = grind (arith, nat_tests)
-closing_is n r w (x ∷ l) = grind (arith, nat_tests)
+closing_is n r [] = grind (arith, nat_tests)
+closing_is n r (x ∷ l) = grind (arith, nat_tests)
 
-module _ (n : ℕ) (r : Reading) (w rest : List ℕ) where
+module _ (n : ℕ) (r : Reading) (rest : List ℕ) where
   -- what stands behind the last newline
   module _ (e : None ≡ parted_once 10 rest) where
-    last_part : read_parts n r w (parted 10 rest) ≡ pick (eqb (length rest) 0 && leb 2 n) (good r w) (bad_at (n + 1) r w)
+    last_part : read_parts n r (parted 10 rest) ≡ pick (eqb (length rest) 0 && leb 2 n) (good r) (bad_at (n + 1) r)
     unfolding read_parts pick
-    last_part = rw (once_none 10 rest (sym e)) (closing_is n r w rest)
+    last_part = rw (once_none 10 rest (sym e)) (closing_is n r rest)
 
-    pub whole : true ≡ (eqb (length rest) 0 && leb 2 n) → read_parts n r w (parted 10 rest) ≡ good r w
+    pub whole : true ≡ (eqb (length rest) 0 && leb 2 n) → read_parts n r (parted 10 rest) ≡ good r
     unfolding pick
     whole f = rw (last_part, ← f)
 
-    pub not_whole : false ≡ (eqb (length rest) 0 && leb 2 n) → read_parts n r w (parted 10 rest) ≡ bad_at (n + 1) r w
+    pub not_whole : false ≡ (eqb (length rest) 0 && leb 2 n) → read_parts n r (parted 10 rest) ≡ bad_at (n + 1) r
     unfolding pick
     not_whole f = rw (last_part, ← f)
 
   -- a line and what stands behind it
   module _ (line behind : List ℕ) (e : Some (line, behind) ≡ parted_once 10 rest) where
-    next_part : read_parts n r w (parted 10 rest) ≡ on_some (take_text n line r w) (λ t. read_parts (n + 1) t.reading t.words (parted 10 behind)) (bad_at (n + 1) r w)
+    next_part : read_parts n r (parted 10 rest) ≡ on_some (take_text n line r) (λ t. read_parts (n + 1) t (parted 10 behind)) (bad_at (n + 1) r)
     unfolding read_parts pick
     next_part = rw (once_some 10 rest line behind (sym e), parts_there behind)
 
-    pub line_taken : (t : Taken) → Some t ≡ take_text n line r w → read_parts n r w (parted 10 rest) ≡ read_parts (n + 1) t.reading t.words (parted 10 behind)
+    pub line_taken : (t : Reading) → Some t ≡ take_text n line r → read_parts n r (parted 10 rest) ≡ read_parts (n + 1) t (parted 10 behind)
     unfolding on_some
     line_taken t f = rw (next_part, ← f)
 
-    pub line_bad : None ≡ take_text n line r w → read_parts n r w (parted 10 rest) ≡ bad_at (n + 1) r w
+    pub line_bad : None ≡ take_text n line r → read_parts n r (parted 10 rest) ≡ bad_at (n + 1) r
     unfolding on_some
     line_bad f = rw (next_part, ← f)
 
 -- ---- the whole text
-module _ (text : List ℕ) (r : Reading) (w : List ℕ) where
-  pub too_long : 65536 < length text → read_lines text r w ≡ bad_at 0 r w
+module _ (text : List ℕ) (r : Reading) where
+  pub too_long : 65536 < length text → read_lines text r ≡ bad_at 0 r
   unfolding read_lines pick
   too_long h = rw (lt-leb (length text) 65536 h)
 
-  pub not_long : length text ≤ 65536 → read_lines text r w ≡ read_parts 0 r w (parted 10 text)
+  pub not_long : length text ≤ 65536 → read_lines text r ≡ read_parts 0 r (parted 10 text)
   unfolding read_lines pick
   not_long h = rw (le-leb (length text) 65536 h)

@@ -17,9 +17,8 @@ use Rattle.state.specs.declared.KernelState.{KernelState}
 use Rattle.rules.specs.Calls.{Did, refused, stays, halts, ends}
 use Rattle.rules.specs.Conservation.{of_side, lots_on, carried_by, carried_on, Each, Conserved, Closed, Call, answer_to, result, After, Claim}
 use Rattle.rules.proofs.Conservation.{conservation}
-use Rattle.runtake.specs.Take.{blank_reading, take_order, take_cancel}
+use Rattle.runtake.specs.Take.{Reading, blank_reading, take_order, take_cancel}
 use Rattle.runtake.specs.declared.Lots.{Lots}
-use Rattle.runtake.specs.declared.Reading.{Reading}
 use Rattle.runtext.specs.Read.{start_state, read_text}
 use Rattle.runtext.specs.Start.{GoesOn, GoOn}
 use Rattle.runtext.proofs.EachLine.{marks_same, reserved_case, put_in_case, queued_case, Keeps, text_starts}
@@ -33,11 +32,11 @@ abbrev Carried : Msgs → Lots → AgentAccount → Type 0
 Carried ms l account = CarriedBy ms l
 
 -- before the first line there are no messages and no lots
-blank_carried : CarriedBy blank_reading.msgs blank_reading.lots
+blank_carried : (words : List ℕ) → CarriedBy (blank_reading words).msgs (blank_reading words).lots
 unfolding total on_side
-blank_carried = record { lots = go }
+blank_carried words = record { lots = go }
   where
-    go : (d : Side) → on_side d blank_reading.lots.buy blank_reading.lots.sell ≡ total (carried_on d) (below blank_reading.msgs)
+    go : (d : Side) → on_side d (blank_reading words).lots.buy (blank_reading words).lots.sell ≡ total (carried_on d) (below (blank_reading words).msgs)
     go Buy = refl
     go Sell = refl
 

@@ -15,12 +15,11 @@ use Rattle.rules.specs.Conservation.{Call, advances, passes}
 use Rattle.rules.specs.FewEvents.{raisable_kind, raisable, msgs_events}
 use Rattle.rules.proofs.Cases.{word_case}
 use Rattle.rules.proofs.HowFar.{few-events}
-use Rattle.runtake.specs.Take.{blank_reading, take_order, take_cancel}
+use Rattle.runtake.specs.Take.{Reading, blank_reading, take_order, take_cancel}
 use Rattle.runtext.specs.Read.{start_state, read_text}
 use Rattle.runtext.specs.Uncut.{Uncut}
 use Rattle.runtext.proofs.EachLine.{marks_same, reserved_case, put_in_case, queued_case, Keeps, text_starts}
 use Rattle.runtake.specs.declared.Lots.{Lots}
-use Rattle.runtake.specs.declared.Reading.{Reading}
 
 -- ---- what is so between two lines
 -- an activation for each account that is opened, and besides them only cancels
@@ -32,9 +31,9 @@ record LightBy (ms : Msgs) (account : AgentAccount) : Type 0 where
 abbrev Light : Msgs → Lots → AgentAccount → Type 0
 Light ms lots account = LightBy ms account
 
-blank_light : LightBy blank_reading.msgs blank_reading.account
+blank_light : (words : List ℕ) → LightBy (blank_reading words).msgs (blank_reading words).account
 unfolding total
-blank_light = record { msgs = omega arith; accounts = omega arith; extras = omega arith }
+blank_light words = record { msgs = omega arith; accounts = omega arith; extras = omega arith }
 
 -- `o`
 order_light : (n : ℕ) (o : VenueOrder) (life : ℕ) (r : Reading) → o.filled ≡ 0 → LightBy r.msgs r.account → Keeps Light (take_order n o life r)

@@ -8,9 +8,10 @@ use Rattle.state.specs.declared.KernelState.{KernelState}
 use Rattle.state.specs.declared.Phase.TheVariants.{ObsQueued}
 use Rattle.state.specs.declared.Status.TheVariants.{Running}
 use Rattle.text.specs.Fields.{parted}
-use Rattle.runtake.specs.Take.{blank_reading, take_text}
-use Rattle.runtake.specs.declared.Reading.{Reading}
+use Rattle.runtake.specs.Take.{Reading, blank_reading, take_text}
 use Rattle.runtext.specs.declared.BadFile.{BadFile}
+use Rattle.runtext.specs.declared.Fault.{Fault}
+use Rattle.runtext.specs.declared.Fault.TheVariants.{TooLong, Line}
 use Rattle.runtext.specs.declared.Script.{Script}
 
 -- ---- the state at the start
@@ -46,38 +47,47 @@ pub record Read : Type 0 where
   pub script : Script
   pub words : List ℕ
 
+-- "file too long ..: 0"; the number of a bad line
+abbrev pub fault_number : Fault → ℕ
+fault_number TooLong = 0
+fault_number (Line n) = n
+
 -- what the code answers
 abbrev pub read_of : Result Script BadFile → List ℕ → Read
 read_of (Ok s) w = record { bad = None; script = s; words = w }
-read_of (Err b) w = record { bad = Some b.line; script = b.above; words = w }
+read_of (Err b) w = record { bad = Some (fault_number b.fault); script = b.above; words = w }
 
-abbrev pub good : Reading → List ℕ → Read
-good r w = record { bad = None; script = script_of r; words = w }
+-- a good file, of which this was read
+abbrev pub good : Reading → Read
+good r = record { bad = None; script = script_of r; words = r.words }
 
-abbrev pub bad_at : ℕ → Reading → List ℕ → Read
-bad_at n r w = record { bad = Some n; script = script_of r; words = w }
+-- a bad one: the number that is printed of it, and what was read above that line
+abbrev pub bad_at : ℕ → Reading → Read
+bad_at n r = record { bad = Some n; script = script_of r; words = r.words }
 
 -- the same of the code that reads the lines
-abbrev pub lines_read : Result (Unit {0}) ℕ → Reading → List ℕ → Read
-lines_read (Ok v) r w = good r w
-lines_read (Err n) r w = bad_at n r w
+abbrev pub lines_read : Result (Unit {0}) Fault → Reading → Read
+lines_read (Ok v) r = good r
+lines_read (Err fault) r = bad_at (fault_number fault) r
 
+-- nothing is left
 abbrev pub is_empty : {A : Type 0} → List A → Bool
 is_empty [] = true
 is_empty (x ∷ l) = false
 
 -- what stands behind the last newline, after n lines: a line that is not newline-ended is bad; and with no `c` or no `f`, "absent line: the next number". "`bad N` (from 1 ..)"
-unfoldable pub closing : ℕ → Reading → List ℕ → List ℕ → Read
-closing n r w l = pick (is_empty l) (pick (ltb n 2) (bad_at (n + 1) r w) (good r w)) (bad_at (n + 1) r w)
+unfoldable pub closing : ℕ → Reading → List ℕ → Read
+closing n r l = pick (is_empty l) (pick (ltb n 2) (bad_at (n + 1) r) (good r)) (bad_at (n + 1) r)
 
 -- the parts of the text between its newlines, behind n lines that were read, up to "the first bad line"; the last part stands behind the last newline
-unfoldable pub read_parts : ℕ → Reading → List ℕ → List (List ℕ) → Read
-read_parts n r w [] = closing n r w []
-read_parts n r w (l ∷ ls) = pick (is_empty ls) (closing n r w l) (on_some (take_text n l r w) (λ t. read_parts (n + 1) t.reading t.words ls) (bad_at (n + 1) r w))
+unfoldable pub read_parts : ℕ → Reading → List (List ℕ) → Read
+read_parts n r [] = closing n r []
+read_parts n r (l ∷ ls) = pick (is_empty ls) (closing n r l) (on_some (take_text n l r) (λ t. read_parts (n + 1) t ls) (bad_at (n + 1) r))
 
 -- "at most 65,536 bytes, newline-ended lines"; "file too long ..: 0"
-unfoldable pub read_lines : List ℕ → Reading → List ℕ → Read
-read_lines text r w = pick (leb (length text) 65536) (read_parts 0 r w (parted 10 text)) (bad_at 0 r w)
+unfoldable pub read_lines : List ℕ → Reading → Read
+read_lines text r = pick (leb (length text) 65536) (read_parts 0 r (parted 10 text)) (bad_at 0 r)
 
+-- a whole text, the rows' words going to the front of those that were lent
 unfoldable pub read_text : List ℕ → List ℕ → Read
-read_text text w = read_lines text blank_reading w
+read_text text words = read_lines text (blank_reading words)

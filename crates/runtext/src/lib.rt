@@ -1,18 +1,14 @@
 // The run file of `replay` read whole, on a slice: its configuration, its rows and the state at the start. Nothing here opens a file.
 #![tactic(auto)]
 
-ghost use Rattle.std.specs.Prelude.{◌≡◌, ◌&&◌, OnErr, eqb, leb, length};
-ghost use Rattle.runtake.specs.Take.{taken_words, take_text};
-ghost use Rattle.runtext.specs.Read.{seeded, start_state, script_of, read_of, lines_read, read_lines, read_text};
+ghost use Rattle.std.specs.Prelude.{◌≡◌, ◌&&◌, eqb, leb, length};
+ghost use Rattle.runtake.specs.Take.{reading_of, Takes, take_text};
+ghost use Rattle.runtext.specs.Read.{fault_number, seeded, start_state, script_of, read_of, lines_read, read_lines, read_text};
 
 use book::config::Config;
-use deliveries::Deliveries;
-use numbers::position::Position;
-use observed::Observed;
-use orders::Orders;
 use runline::line_of;
-use runtake::{BadLine, Reading, WORDS};
-use state::{AgentView, Clock, Control, Counters, GateState, KernelState, Phase, Seqs, Status};
+use runtake::{BadLine, HEAD_LINES, MOST_WORDS, Reading};
+use state::{Control, GateState, KernelState, Phase, Seqs};
 use text::split_once;
 
 // A run file has no more bytes.
@@ -21,7 +17,7 @@ const MOST_BYTES: usize = 65536;
 // What seed 0 becomes.
 const DEFAULT_SEED: u64 = 0x9E37_79B9_7F4A_7C15;
 
-// A run: its configuration, its state at the start and how many rows it has.
+// A run: its configuration, its state at the start and how many rows it has. Their words are the caller's again once the file is read, so that they are not in here.
 #[derive(Clone, Copy)]
 pub struct Script {
     pub cfg: Config,
@@ -29,10 +25,29 @@ pub struct Script {
     pub rows: usize,
 }
 
-// A run file with a bad line: the number of the first, and the run of the lines above it. A file that is too long has the number 0.
+// What is wrong with a run file: it is too long, or this is the number of its first bad line, from 1. What is printed of it is a number.
+#[derive(Clone, Copy, Debug, PartialEq, Eq)]
+pub enum Fault {
+    TooLong,
+    Line(u64),
+}
+
+// The number that `bad` prints of it.
+impl From<Fault> for u64 {
+    ghost from_gives = { λ fault n. n ≡ fault_number fault };
+
+    fn from(fault: Fault) -> u64 {
+        match fault {
+            Fault::TooLong => 0,
+            Fault::Line(n) => n,
+        }
+    }
+}
+
+// A bad run file, with the run of the lines above its first bad one.
 #[derive(Clone, Copy)]
 pub struct BadFile {
-    pub line: u64,
+    pub fault: Fault,
     pub above: Script,
 }
 
@@ -46,57 +61,32 @@ fn seed_of(seed: u64) -> u64
 // The state at the start.
 #[tactic(auto, unfolding(crate::specs::Read::start_state))]
 fn start_state(reading: &Reading) -> KernelState
-    ensures { result ≡ start_state reading.now }
+    ensures { result ≡ start_state (reading_of reading.now) }
 {
     KernelState {
         control: Control {
             phase: Phase::ObsQueued,
             resume: Phase::ObsQueued,
-            cursor: 0,
-            cur_row: None,
-            step: 0,
-            status: Status::Running,
-        },
-        clock: Clock {
-            now_ns: 0,
-            last_delivery_ns: 0,
-            last_observed_ns: 0,
+            ..Control::default()
         },
         rng_latency: seed_of(reading.seed),
         seqs: Seqs {
-            stamp_seq: 0,
             next_msg_seq: reading.msgs.count as u64,
-            next_exec_id: 0,
+            ..Seqs::default()
         },
-        orders: Orders::new(),
         msgs: reading.msgs,
-        awaiting: Orders::new(),
         gate: GateState {
-            venue_pos: Position { lots: 0 },
             live_buy_lots: reading.lots.buy,
             live_sell_lots: reading.lots.sell,
-            mark2: None,
-        },
-        deliveries: Deliveries::new(),
-        observed: Observed::new(),
-        agent: AgentView {
-            pos: Position { lots: 0 },
-            last_obs_row: None,
-            delivered_local_rejects: 0,
-            delivered_fills: 0,
+            ..GateState::default()
         },
         account: reading.account,
-        counters: Counters {
-            halts: 0,
-            venue_fills: 0,
-            eof_dropped_msgs: 0,
-            eof_dropped_obs: 0,
-        },
+        ..KernelState::default()
     }
 }
 
-impl From<&Reading> for Script {
-    ghost from_gives = { λ reading script. script ≡ script_of reading.now };
+impl From<&Reading<'_>> for Script {
+    ghost from_gives = { λ reading script. script ≡ script_of (reading_of reading.now) };
 
     #[tactic(auto, unfolding(crate::specs::Read::script_of))]
     fn from(reading: &Reading) -> Script {
@@ -110,17 +100,10 @@ impl From<&Reading> for Script {
 
 // A line as the text has it, behind n others.
 #[tactic(auto, unfolding(runtake::specs::Take::take_text, numbers::specs::Choice::on_some))]
-fn take_text(
-    reading: &mut Reading,
-    n: u64,
-    line: &[u8],
-    words: &mut [u64; WORDS],
-) -> Result<(), BadLine>
-    ensures takes { taken_words result reading.new words.new ≡ take_text n line.now reading.old words.old }
-    ensures keeps { OnErr result (reading.new ≡ reading.old) }
-    ensures words { OnErr result (words.new ≡ words.old) }
+fn take_text(reading: &mut Reading, n: u64, line: &[u8]) -> Result<(), BadLine>
+    ensures { Takes result reading.old reading.new (take_text n line.now (reading_of reading.old)) }
 {
-    reading.take_line(n, line_of(line).ok_or(BadLine)?, words)
+    reading.take_line(n, line_of(line).ok_or(BadLine)?)
 }
 
 // Whether a file with this behind its last newline, and n lines before, is whole: a line that is not ended is bad, and so is an absent `c` or `f`.
@@ -128,43 +111,44 @@ fn take_text(
 fn is_whole(rest: &[u8], n: u64) -> bool
     ensures { result ≡ (eqb (length rest.now) 0 && leb 2 n) }
 {
-    rest.is_empty() && n >= 2
+    rest.is_empty() && n >= HEAD_LINES
 }
 
-// The lines of the text. The error is the number of the first bad one.
-fn read_lines(reading: &mut Reading, text: &[u8], words: &mut [u64; WORDS]) -> Result<(), u64>
-    ensures { lines_read result reading.new words.new ≡ read_lines text.now reading.old words.old }
+// The lines of the text, up to the first bad one. By the text that is left, and not by std's `split`: what stands behind the last newline is no line, and is to be empty.
+fn read_lines(reading: &mut Reading, text: &[u8]) -> Result<(), Fault>
+    ensures reads { lines_read result (reading_of reading.new) ≡ read_lines text.now (reading_of reading.old) }
+    ensures lent { reading.new.words.ghost_name ≡ reading.old.words.ghost_name }
 {
     if text.len() > MOST_BYTES {
-        return Err(0);
+        return Err(Fault::TooLong);
     }
     let mut rest = text;
     let mut n = 0;
     while let Some((line, behind)) = split_once(rest, b'\n') {
-        let Ok(()) = take_text(reading, n, line, words) else {
-            return Err(n + 1);
+        let Ok(()) = take_text(reading, n, line) else {
+            return Err(Fault::Line(n + 1));
         };
         n += 1;
         rest = behind;
     }
     if !is_whole(rest, n) {
-        return Err(n + 1);
+        return Err(Fault::Line(n + 1));
     }
     Ok(())
 }
 
 // The whole file. The words of its rows go to the front of `words`.
 #[tactic(auto, unfolding(crate::specs::Read::read_text))]
-pub fn read(text: &[u8], words: &mut [u64; WORDS]) -> Result<Script, BadFile>
+pub fn read(text: &[u8], words: &mut [u64; MOST_WORDS]) -> Result<Script, BadFile>
     ensures { read_of result words.new ≡ read_text text.now words.old }
 {
-    let mut reading = Reading::new();
-    let outcome = read_lines(&mut reading, text, words);
+    let mut reading = Reading::new(words);
+    let outcome = read_lines(&mut reading, text);
     let script = Script::from(&reading);
     match outcome {
         Ok(()) => Ok(script),
-        Err(line) => Err(BadFile {
-            line,
+        Err(fault) => Err(BadFile {
+            fault,
             above: script,
         }),
     }

@@ -18,8 +18,9 @@ use numbers::position::Position;
 use observed::Observed;
 use orders::Orders;
 
-#[derive(Clone, Copy, PartialEq, Eq)]
+#[derive(Clone, Copy, PartialEq, Eq, Default)]
 pub enum Phase {
+    #[default]
     BeforeMatch,
     ObsQueued,
     AwaitDecision,
@@ -34,7 +35,8 @@ impl Phase {
     }
 }
 
-#[derive(Clone, Copy, PartialEq, Eq)]
+// What is printed of it is the paper's number.
+#[derive(Clone, Copy, Debug, PartialEq, Eq)]
 pub enum HaltReason {
     LedgerOverflow,
     TimeOverflow,
@@ -63,8 +65,9 @@ impl From<HaltReason> for u64 {
     }
 }
 
-#[derive(Clone, Copy, PartialEq, Eq)]
+#[derive(Clone, Copy, PartialEq, Eq, Default)]
 pub enum Status {
+    #[default]
     Running,
     EndOfData,
     Truncated,
@@ -72,7 +75,7 @@ pub enum Status {
 }
 
 // Where the advance stands.
-#[derive(Clone, Copy)]
+#[derive(Clone, Copy, Default)]
 pub struct Control {
     pub phase: Phase,
     pub resume: Phase,
@@ -110,7 +113,7 @@ impl Control {
 }
 
 // The time, and the times of the last delivery and the last observation that were queued.
-#[derive(Clone, Copy)]
+#[derive(Clone, Copy, Default)]
 pub struct Clock {
     pub now_ns: u64,
     pub last_delivery_ns: u64,
@@ -118,7 +121,7 @@ pub struct Clock {
 }
 
 // The next number of each kind that the venue gives out.
-#[derive(Clone, Copy)]
+#[derive(Clone, Copy, Default)]
 pub struct Seqs {
     pub stamp_seq: u64,
     pub next_msg_seq: u64,
@@ -126,7 +129,7 @@ pub struct Seqs {
 }
 
 // The venue's position, the live lots of each side and the last mark, in half ticks.
-#[derive(Clone, Copy)]
+#[derive(Clone, Copy, Default)]
 pub struct GateState {
     pub venue_pos: Position,
     pub live_buy_lots: u64,
@@ -135,7 +138,7 @@ pub struct GateState {
 }
 
 // What the agent knows: updated by each delivery and each observation.
-#[derive(Clone, Copy)]
+#[derive(Clone, Copy, Default)]
 pub struct AgentView {
     pub pos: Position,
     pub last_obs_row: Option<u64>,
@@ -143,7 +146,7 @@ pub struct AgentView {
     pub delivered_fills: u64,
 }
 
-#[derive(Clone, Copy)]
+#[derive(Clone, Copy, Default)]
 pub struct Counters {
     pub halts: u64,
     pub venue_fills: u64,
@@ -151,7 +154,7 @@ pub struct Counters {
     pub eof_dropped_obs: u64,
 }
 
-#[derive(Clone, Copy)]
+#[derive(Clone, Copy, Default)]
 pub struct KernelState {
     pub control: Control,
     pub clock: Clock,
@@ -183,8 +186,8 @@ pub enum KernelEvent {
     DroppedExpiry { order_id: u64 },
 }
 
-// Why a call is refused, in the order of the paper's numbers, from 101.
-#[derive(Clone, Copy, PartialEq, Eq)]
+// Why a call is refused, in the order of the paper's numbers, from 101. What is printed of it is that number.
+#[derive(Clone, Copy, Debug, PartialEq, Eq)]
 pub enum Refusal {
     RowWords,
     ListCount,

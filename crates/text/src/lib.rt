@@ -11,14 +11,14 @@ ghost use Rattle.text.specs.Fields.{pieces, parted_once, fields, is_digit, numbe
 // A number has no more digits, leading zeros among them.
 const MOST_DIGITS: usize = 20;
 
-// The place of the first `stop`.
+// The place of the first `stop`: by itself, so that what the closure computes is one equation.
 fn place_of(s: &[u8], stop: u8) -> Option<usize>
     ensures { result ≡ position (λ x. x == stop) s.now }
 {
     s.iter().position(|b| *b == stop)
 }
 
-// What stands before the first `stop` and what stands behind it: none where there is no `stop`.
+// What stands before the first `stop` and what stands behind it: none where there is no `stop`. It is `str`'s method of this name, which std does not have of bytes.
 pub fn split_once(s: &[u8], stop: u8) -> Option<(&[u8], &[u8])>
     ensures { pieces result ≡ parted_once stop s.now }
 {
@@ -26,7 +26,7 @@ pub fn split_once(s: &[u8], stop: u8) -> Option<(&[u8], &[u8])>
     Some((&s[..at], &s[at + 1..]))
 }
 
-// What a digit is worth.
+// What a digit is worth: by hand, since `to_digit` is of a `char`.
 fn digit(b: u8) -> Option<u64>
     ensures { result ≡ pick (is_digit b) (Some (b - 48)) None }
 {
@@ -36,7 +36,7 @@ fn digit(b: u8) -> Option<u64>
     Some(u64::from(b - b'0'))
 }
 
-// The number that a field writes: 1 to 20 digits, within 64 bits.
+// The number that a field writes: 1 to 20 digits, within 64 bits. std's `parse` takes a plus sign and any number of zeros.
 pub fn number(field: &[u8]) -> Option<u64>
     ensures { result ≡ number field.now }
 {
@@ -50,7 +50,7 @@ pub fn number(field: &[u8]) -> Option<u64>
     Some(n)
 }
 
-// A line read field by field.
+// A line read field by field. Over std's `split` each reader of a line would have the type of the closure that finds a space as a parameter, and what it computes in its contract.
 #[derive(Drop)]
 pub struct Fields<'a> {
     rest: Option<&'a [u8]>,

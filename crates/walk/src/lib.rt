@@ -1,4 +1,5 @@
 // The walk over the three queues, up to a time (run_events of step.rs of the Rust).
+// What a step takes stands apart, as in `reports`.
 #![tactic(auto)]
 
 ghost use Rattle.std.specs.Prelude.{◌≡◌};
@@ -35,7 +36,7 @@ fn due_by(limit: u64, class: Class, at_ns: u64) -> Option<Due>
     (at_ns <= limit).then_some(Due { class, at_ns })
 }
 
-// The earlier of two, at equal times the first.
+// The earlier of two, at equal times the first: by hand, as the rules say it, where `min_by_key` would want the three in a row first.
 #[tactic(auto, unfolding(rules::specs::Events::sooner, numbers::specs::Choice::pick))]
 fn sooner(a: Option<Due>, b: Option<Due>) -> Option<Due>
     ensures { rule_next result ≡ sooner (rule_next a) (rule_next b) }
@@ -98,7 +99,7 @@ fn handle(cfg: &Config, class: Class, s: &mut KernelState, log: &mut Log) -> Res
     Ok(())
 }
 
-// Every event up to the limit, the least time first, while each runs to its end.
+// Every event up to the limit, the least time first, while each runs to its end. The loop yields its outcome by `break`, as a rule of the project has it.
 pub fn run_events(cfg: &Config, limit: u64, s: &mut KernelState, log: &mut Log) -> Result<(), Stop>
     ensures { actual result s.new (log_of log.new) ≡ expected (log_of log.old) (run_events cfg.now limit s.old) }
 {

@@ -8,6 +8,7 @@ pub record Text : Type 0 where
   pub bytes : List ℕ
   pub next : ℕ
 
+-- bytes of which those before a place are written
 abbrev pub text_at : List ℕ → ℕ → Text
 text_at bs n = record { bytes = bs; next = n }
 
@@ -15,6 +16,7 @@ text_at bs n = record { bytes = bs; next = n }
 unfoldable pub put : Text → ℕ → Text
 put t b = pick (ltb t.next (length t.bytes)) (text_at (set t.bytes t.next b) (t.next + 1)) t
 
+-- bytes one by one
 unfoldable pub texted : Text → List ℕ → Text
 texted t [] = t
 texted t (b ∷ l) = texted (put t b) l

@@ -1,7 +1,7 @@
 // Text written into what the caller lends.
 #![tactic(auto)]
 
-ghost use Rattle.std.specs.Prelude.{◌≡◌, [], ◌∷◌};
+ghost use Rattle.std.specs.Prelude.{◌≡◌, [], ◌∷◌, take};
 ghost use Rattle.write.specs.Write.{written, decimal, signed};
 
 // Bytes of `out` that are written, `len` of them so far. A byte past its end is not written.
@@ -16,6 +16,13 @@ impl<'a> Writer<'a> {
         ensures { result ≡ record { out = out.entry; len = 0 } }
     {
         Writer { out, len: 0 }
+    }
+
+    // What is written so far.
+    pub fn as_slice(&self) -> &[u8]
+        ensures { result.now ≡ take self.now.len self.now.out.now }
+    {
+        &self.out[..self.len.min(self.out.len())]
     }
 
     pub fn put_byte(&mut self, b: u8)
@@ -40,7 +47,7 @@ impl<'a> Writer<'a> {
     }
 
     // A number by its decimal digits, of which 64 bits have at most 20: from the last on, into a row from its end on.
-    // By hand: `write!` may answer an error, behind which nothing is known, and here every byte is promised.
+    // By hand: `write!` may answer an error, behind which nothing is known, and here every byte is promised; a crate that prints numbers would be one more to trust.
     pub fn put_number(&mut self, n: u64)
         ensures { self.new ≡ written self.old (decimal n) }
     {

@@ -20,7 +20,7 @@ use state::{HaltReason, KernelEvent, KernelState, Refusal, Status};
 // The records of the log that another call must have room for.
 const CALL_RECORDS: usize = 512;
 
-// What a batch gives: the answer and the state of its last call, how many events all its calls raised, and how many the last one did. The state comes back in every case, refused or not, and so stands beside the answer and not in it.
+// What a batch gives: the answer and the state of its last call, how many events all its calls raised, and how many the last one did. The state comes back in every case, refused or not, and so stands beside the answer and not in it; the counts too, since a refused batch raised none.
 #[derive(Clone, Copy)]
 pub struct Advanced {
     pub answer: Result<(), Refusal>,

@@ -46,7 +46,7 @@ fn add_events(sum: u64, log: &[u64], events: u64) -> u64 {
 }
 
 impl Bench<'_, '_> {
-    // A day from its start to its end, a pass between two batches. The first run alone is summed, so that the others are times of the kernel. A proved loop has to end, so the batches are counted, to a number that no day reaches.
+    // A day from its start to its end, a pass between two batches. The first run alone is summed, so that the others are times of the kernel: a flag, and no closure that would do nothing in them. A proved loop has to end, so the batches are counted, to a number that no day reaches.
     fn play(&mut self, start: KernelState, summed: bool) -> Total {
         let mut state = start;
         let mut events = 0u64;

@@ -18,7 +18,7 @@ pub enum Side {
     Sell,
 }
 
-// The paper's number.
+// The paper's number, beside its case here and in the others of this kind: as a discriminant it would be part of the type.
 impl From<Side> for u64 {
     ghost from_gives = { λ side n. n ≡ side_number side };
 
@@ -94,7 +94,7 @@ impl VenueOrder {
     }
 }
 
-// A message holds one of three kinds. An activation carries a whole order and its life, 0 for none.
+// A message holds one of three kinds. An activation carries a whole order and its life, 0 for none, as the papers have it.
 #[derive(Clone, Copy)]
 pub enum MsgKind {
     Cancel { id: u64 },

@@ -14,6 +14,7 @@ const MOST_ROW_WORDS: usize = 16384;
 
 const MOST_CALLS: usize = 4096;
 
+// By its number in the case text, as the enums of `records`.
 #[derive(Clone, Copy)]
 pub enum Call {
     Advance,

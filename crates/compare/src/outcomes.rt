@@ -123,11 +123,7 @@ impl Run<'_, '_> {
 }
 
 fn write_answer<W: Write>(answer: Result<(), Refusal>, raised: u64, out: &mut W) -> io::Result<()> {
-    let number = match answer {
-        Ok(()) => 0,
-        Err(refusal) => u64::from(refusal),
-    };
-    put(out, "answer", &number)?;
+    put(out, "answer", &entry::number(answer))?;
     put(out, "count", &raised)
 }
 

@@ -4,7 +4,7 @@ use std::alloc::{AllocError, AllocFailed, Global};
 use std::io::{self, BufRead};
 use std::str::{self, FromStr, Split};
 
-// Why a text is read no further: the line of this number is not as it should be, or there is no memory for it.
+// Why a text is read no further: the line of this number is not as it should be, or there is no memory for it. What is printed of it is that number.
 #[derive(Debug, Drop)]
 pub enum ReadError {
     BadLine(u64),

@@ -3,7 +3,7 @@
 
 ghost use Rattle.std.specs.Prelude.{[], ◌≡◌};
 ghost use Rattle.rules.specs.Calls.{pass, returned, counts_fit, is_paused, can_resume};
-ghost use Rattle.entry.specs.Entry.{may_advance, passed};
+ghost use Rattle.entry.specs.Entry.{answer_number, may_advance, passed};
 
 use book::config::ROW_WORDS;
 use numbers::words::checked_add;
@@ -34,6 +34,16 @@ pub fn may_advance(words: usize, s: &KernelState) -> Result<(), Refusal>
         Ok(())
     } else {
         Err(Refusal::ListCount)
+    }
+}
+
+// The paper's number of an answer: the refusal's, 0 where the call ran.
+pub fn number(answer: Result<(), Refusal>) -> u64
+    ensures { result ≡ answer_number answer }
+{
+    match answer {
+        Ok(()) => 0,
+        Err(refusal) => u64::from(refusal),
     }
 }
 

@@ -10,7 +10,7 @@ use batch::{Advanced, run};
 use book::config::Config;
 use state::{KernelState, Refusal};
 
-// Runs until the next decision or the end of the run.
+// Runs until the next decision or the end of the run. The rows are words, as a rule of the project has them, and what it takes stands apart, as in `reports`.
 pub fn advance(cfg: &Config, rows: &[u64], state: KernelState, log: &mut [u64]) -> Advanced
     ensures { (actual_advance result log.new ≡ returned log.old (advance cfg.now rows.now state)) × (result.last ≡ result.events) }
 {

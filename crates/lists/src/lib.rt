@@ -60,7 +60,7 @@ impl<T: Blank, const N: usize> Arr<T, N> {
     }
 
     // Each entry from the place on moves one slot up: it is carried to its new slot by the one before it.
-    // By places, and not by `rotate_right`: an entry that moves is one store, and a rotation promises nothing of its stores.
+    // By places, as a rule of the project has it: entries shift within the row, each by one store. `rotate_right` and `copy_within` promise nothing of stores.
     pub fn insert(&mut self, at: usize, value: T) -> Result<(), Full>
         ensures { put_of result self.new ≡ put_at N at value self.old }
     {

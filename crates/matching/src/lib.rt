@@ -18,7 +18,7 @@ use reports::log::Log;
 use reports::report::{Stamped, queue_delivery, stamp, status_report};
 use state::{GateState, HaltReason, KernelEvent, KernelState};
 
-// The order after a fill, which is Filled where nothing remains.
+// The order after a fill, which is Filled where nothing remains. The order and the lots of its fill stand apart, here and below: one is stored, the other told.
 #[tactic(auto, unfolding(rules::specs::Matching::filled_by, numbers::specs::Choice::pick))]
 fn filled_by(order: &VenueOrder, lots: u64) -> VenueOrder
     requires { lots ≤ remaining order.now }
@@ -96,6 +96,7 @@ fn fill_at(
     let filled = filled_by(order, lots);
     let kind = fill_kind(order, lots);
     let report = status_report(stamped, &filled, kind, order.cancel_inflight, lots);
+    // the order was found there, so it is there to be stored to
     let _ = s.orders.store(index, filled);
     queue_delivery(cfg, s, report, Some(fill), log)
 }

@@ -27,7 +27,7 @@ pub fn expiry(msgs: &Msgs, id: u64) -> Option<usize>
     msgs.as_slice().iter().position(|msg| msg.is_expiry(id))
 }
 
-// Before the first with a greater pair, else behind the last. It differs from `orders::insert_by_id` in the test alone, as is said there.
+// Before the first with a greater pair, else behind the last. It differs from `orders::insert_by_id` in the test alone, and why no method takes the test is said there.
 pub fn insert_by_key(msgs: &mut Msgs, msg: VenueMsg) -> Result<(), Full>
     ensures { put_of result msgs.new ≡ put_before msgs_capacity (is_later msg.eff_ns msg.seq) msg msgs.old }
 {

@@ -27,7 +27,7 @@ pub fn position(orders: &Orders, id: u64) -> Option<usize>
     orders.as_slice().iter().position(|order| order.id == id)
 }
 
-// Before the first of a greater number, else behind the last: the Rust's insert_by_id. It differs from `msgs::insert_by_key` in the test alone; a method that took the test would ask of its caller that it may be called.
+// Before the first of a greater number, else behind the last: the Rust's insert_by_id. It differs from `msgs::insert_by_key` in the test alone. No public function has a `requires`, as a rule of the project has it, so no method takes the test; a trait for two tests would be longer than what the two share.
 pub fn insert_by_id(orders: &mut Orders, order: VenueOrder) -> Result<(), Full>
     ensures { put_of result orders.new ≡ put_before orders_capacity (id_above order.id) order orders.old }
 {

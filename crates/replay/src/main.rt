@@ -7,7 +7,7 @@ ghost use Rattle.std.specs.Io.{ReadsAtMost};
 use book::config::{Config, ROW_WORDS};
 use day::{LOG_WORDS, Progress, TEXT_BYTES};
 use lines::put_bad;
-use runtext::read;
+use runtext::{MOST_BYTES, read};
 use state::KernelState;
 use std::env::FillError;
 use std::fs::File;
@@ -15,6 +15,9 @@ use std::io::Read;
 use std::rt::{Env, Files};
 use std::{io, str};
 use write::Writer;
+
+// One byte more than a run file may have: it tells that a file is too long.
+const READ_BYTES: usize = MOST_BYTES + 1;
 
 // Bytes for one line: more than `bad N` or the last line has.
 const LINE_BYTES: usize = 4096;
@@ -62,7 +65,7 @@ fn replay_text(rt: &impl Print, text: &[u8]) -> io::Result<()> {
     }
 }
 
-// Reads until the text is full or the file ends. It gives how many bytes were read. By hand: `read_exact` fails where the file ends, and `read_to_end` reads into a heap.
+// Reads until the text is full or the file ends. It gives how many bytes were read. By hand: `read_exact` fails where the file ends, and `read_to_end` reads into a heap, of which this program has none.
 fn read_full(file: &mut impl Read, text: &mut [u8]) -> io::Result<usize>
     ensures { ReadsAtMost result text.new }
 {
@@ -84,9 +87,9 @@ fn read_file(rt: &impl Files, path: &str, text: &mut [u8]) -> io::Result<usize>
     read_full(&mut file, text)
 }
 
-// One byte more than a run file may have tells that it is too long. A file that cannot be opened or read, as a folder, is missing.
+// A file that cannot be opened or read, as a folder, is missing.
 fn replay_file(rt: &(impl Files + Print), path: &str) -> io::Result<()> {
-    let mut text = [0; 65537];
+    let mut text = [0; READ_BYTES];
     match read_file(rt, path, &mut text) {
         Ok(n) => replay_text(rt, &text[..n]),
         Err(_) => print_bad(rt, 0),

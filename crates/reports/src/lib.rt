@@ -1,5 +1,5 @@
 // How a step of the kernel goes, the log that it writes, and the reports that it sends (step.rs of the Rust).
-// A step takes the configuration, the state and the log apart, here and in the crates above, as the Rust's functions do: what is only read has no part in what changes, and of a struct of the three each contract would have to say besides that the configuration stays.
+// A step takes the configuration, the state and the log apart, here and in the crates above, as the Rust's functions do: what is only read has no part in what changes, and of a struct of the three each contract would have to say besides that the configuration stays. The state and the log are two, since the caller keeps the one and lent the other.
 #![tactic(auto)]
 
 pub mod log;

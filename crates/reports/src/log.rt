@@ -6,7 +6,7 @@ ghost use Rattle.reports.specs.Log.{log_of, append_event};
 use book::{FillRec, ReportRec};
 use state::KernelEvent;
 
-// The words of a record. A log holds words, so an event is named by its number here.
+// The words of a record; `logline` has the same number, since what prints stands on nothing of the kernel. A log holds words, so an event is named by its number here.
 pub const WORDS: usize = 12;
 
 // The log that a caller lent, and how many events were raised on it.

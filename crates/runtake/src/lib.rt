@@ -19,7 +19,7 @@ const MOST_ROWS: usize = 512;
 
 pub const MOST_WORDS: usize = MOST_ROWS * ROW_WORDS;
 
-// A line that may not stand where it stands, or is one too many. What is printed of it is its number.
+// A line that may not stand where it stands, or is one too many. What is printed is the line's number, which the caller counts.
 #[derive(Clone, Copy, Debug, PartialEq, Eq)]
 pub struct BadLine;
 
@@ -185,7 +185,7 @@ impl<'a> Reading<'a> {
         Ok(())
     }
 
-    // The row's words are stored behind those of the other rows.
+    // The row's words are stored behind those of the other rows: at one place, where `as_chunks_mut` would part all words for it.
     #[tactic(auto, using(std::proofs::lemmas::Bool::Decides::nat_tests), unfolding(crate::specs::Take::take_row, numbers::specs::Choice::pick))]
     fn take_row(&mut self, n: u64, tick: KernelTick) -> Result<(), BadLine>
         ensures { Takes result self.old self.new (take_row n tick (reading_of self.old)) }

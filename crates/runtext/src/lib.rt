@@ -12,7 +12,7 @@ use state::{Control, GateState, KernelState, Phase, Seqs};
 use text::split_once;
 
 // A run file has no more bytes.
-const MOST_BYTES: usize = 65536;
+pub const MOST_BYTES: usize = 65536;
 
 // What seed 0 becomes.
 const DEFAULT_SEED: u64 = 0x9E37_79B9_7F4A_7C15;
@@ -44,7 +44,7 @@ impl From<Fault> for u64 {
     }
 }
 
-// A bad run file, with the run of the lines above its first bad one.
+// A bad run file, with the run of the lines above its first bad one. What is printed of it is the fault's number.
 #[derive(Clone, Copy)]
 pub struct BadFile {
     pub fault: Fault,

@@ -52,7 +52,7 @@ impl From<Full> for HaltReason {
     }
 }
 
-// The paper's number.
+// The paper's number, beside its case, as in `book`.
 impl From<HaltReason> for u64 {
     ghost from_gives = { λ reason n. n ≡ halt_number reason };
 
@@ -128,7 +128,7 @@ pub struct Seqs {
     pub next_exec_id: u64,
 }
 
-// The venue's position, the live lots of each side and the last mark, in half ticks.
+// The venue's position, the live lots of each side and the last mark, in half ticks. The lots of the two sides are fields of their own, as in the Rust.
 #[derive(Clone, Copy, Default)]
 pub struct GateState {
     pub venue_pos: Position,
@@ -196,7 +196,7 @@ pub enum Refusal {
     StepLimit,
 }
 
-// The paper's number.
+// The paper's number, beside its case, as in `book`.
 impl From<Refusal> for u64 {
     ghost from_gives = { λ refusal n. n ≡ refusal_number refusal };
 

@@ -36,7 +36,7 @@ fn due_by(limit: u64, class: Class, at_ns: u64) -> Option<Due>
     (at_ns <= limit).then_some(Due { class, at_ns })
 }
 
-// The earlier of two, at equal times the first: by hand, as the rules say it, where `min_by_key` would want the three in a row first.
+// The earlier of two, at equal times the first: by hand, as the rules say it. `min_by_key` would want the three in a row, and the rule's two steps as one fold over it.
 #[tactic(auto, unfolding(rules::specs::Events::sooner, numbers::specs::Choice::pick))]
 fn sooner(a: Option<Due>, b: Option<Due>) -> Option<Due>
     ensures { rule_next result ≡ sooner (rule_next a) (rule_next b) }

@@ -3,7 +3,7 @@
 
 ghost use Rattle.std.specs.Prelude.{◌≡◌, ◌*◌, ◌/◌};
 
-// Beside `u128`'s own `*`: that it does not wrap is proved once here, and its value is one equation.
+// Beside `u128`'s own `*`: its value is one equation, so that the proof of the queue rule has no wrap in it.
 pub fn product(a: u64, b: u64) -> u128
     ensures { result ≡ a * b }
 {

@@ -9,6 +9,7 @@ use lib.Dec.{leb, eqb}
 use lib.ListN.{length, length-append}
 use Rattle.std.specs.Prelude.{Ok, Err}
 use Rattle.numbers.specs.Choice.{pick}
+use Rattle.lists.proofs.Cases.{different}
 use Rattle.book.specs.declared.config.Config.{Config}
 use Rattle.state.specs.Numbers.{refusal_number}
 use Rattle.state.specs.declared.KernelEvent.{KernelEvent}
@@ -24,13 +25,10 @@ use Rattle.rules.specs.Calls.{refuse, refusal_of, answer_on, answer, counts_fit,
 use Rattle.rules.specs.Batch.{call_records, ending, is_stay, goes_on, run_from, run, returned_run}
 use Rattle.rules.proofs.EventsBound.{phases-few}
 use Rattle.reports.specs.Log.{Logged, append_events}
-use Rattle.reports.proofs.Append.{appended_append, appended_all}
+use Rattle.reports.proofs.Append.{appended_append, appended_all, length-written}
 use Rattle.entry.specs.Entry.{may_advance}
 use Rattle.batch.specs.Batch.{Called, called, told, actual_run}
 use Rattle.batch.proofs.Calls.{pass_fits}
-
-different : {A : Type 0} → ◌≡◌ {A = ℕ} 0 1 → A
-different z = absurd (omega arith)
 
 -- ---- the tests at entry
 -- a batch that is not refused passed both
@@ -147,6 +145,9 @@ module _ (c : Config) (rows w : List ℕ) (name passes : ℕ) (s₀ : KernelStat
     count_is : m.count ≡ length all
     count_is = ap (λ (x : Logged). x.count) written_is
 
+    room_is : leb (m.count + call_records) (length m.words / 12) ≡ leb (length all + call_records) records
+    room_is = ap (λ (x : Logged). leb (x.count + call_records) (length x.words / 12)) written_is ∙ ap (λ n. leb (length all + call_records) (n / 12)) (length-written w all)
+
     pub raised_more : l.count ≤ m.count
     raised_more = omega (arith, before_is, count_is, length-append S.events given.events)
 
@@ -185,10 +186,10 @@ module _ (c : Config) (rows w : List ℕ) (name passes : ℕ) (s₀ : KernelStat
       last_over h = stopped (rw (← stays_is, h))
 
       -- the log has no room
-      pub last_full : false ≡ leb (m.count + call_records) records
+      pub last_full : false ≡ leb (m.count + call_records) (length m.words / 12)
           → actual_run (record { answer = Ok tt; state = u; events = m.count; last = m.count - before }) x ≡ returned_run w (run c rows records passes s₀)
       unfolding goes_on
-      last_full h = stopped (rw (← count_is, ← h) (none_with (is_stay given.did) (is_stay (pass given.state).did)))
+      last_full h = let f = h ∙ room_is in stopped (rw (← f) (none_with (is_stay given.did) (is_stay (pass given.state).did)))
         where
           none_with : (p q : Bool) → (p && q && false) ≡ false
           none_with true true = refl
@@ -206,7 +207,7 @@ module _ (c : Config) (rows w : List ℕ) (name passes : ℕ) (s₀ : KernelStat
           none_with false q = refl
 
     -- the pass behind it, and the calls that follow
-    pub sofar_more : b ≡ true → true ≡ leb (m.count + call_records) records → is_stay (pass t).did ≡ true → 0 < left → {u : KernelState} → u ≡ (pass t).state → Sofar (left - 1) u m
+    pub sofar_more : b ≡ true → true ≡ leb (m.count + call_records) (length m.words / 12) → is_stay (pass t).did ≡ true → 0 < left → {u : KernelState} → u ≡ (pass t).state → Sofar (left - 1) u m
     unfolding goes_on
     sofar_more stays fits passed some {u} hu = record {
       events = all;
@@ -217,13 +218,13 @@ module _ (c : Config) (rows w : List ℕ) (name passes : ℕ) (s₀ : KernelStat
     }
       where
         room : length all + call_records ≤ records
-        room = leb-true _ _ (rw (← count_is) (sym fits))
+        room = leb-true _ _ (sym (fits ∙ room_is))
 
         passes_on : is_stay (pass given.state).did ≡ true
         passes_on = rw (← state_is) passed
 
         goes : goes_on records S.events given ≡ true
-        goes = rw (← stays_is, stays, passes_on, ← count_is, ← fits)
+        goes = let f = fits ∙ room_is in rw (← stays_is, stays, passes_on, ← f)
 
         left_is : u ≡ (pass given.state).state
         left_is = rw (hu, state_is)

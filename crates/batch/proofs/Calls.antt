@@ -5,7 +5,7 @@ use mathlib.Core.List.{[], ◌∷◌}
 use mathlib.Core.Path.{◌≡◌, refl, sym, ap, ◌∙◌}
 use native.Mathlib.Omega.{arith}
 use Rattle.std.specs.Prelude.{Result, Ok, Err, is_err}
-use Rattle.lists.proofs.Cases.{pick_case}
+use Rattle.lists.proofs.Cases.{pick_case, different, some_case}
 use Rattle.state.specs.declared.HaltReason.{HaltReason}
 use Rattle.state.specs.declared.KernelEvent.TheVariants as event
 use Rattle.state.specs.declared.KernelState.{KernelState}
@@ -16,23 +16,14 @@ use Rattle.rules.specs.Run.{Run}
 use Rattle.rules.specs.Calls as calls
 use Rattle.rules.specs.Calls.{counts_fit, is_paused, halted, answer_on, answer, pass, returned}
 use Rattle.rules.specs.Batch.{is_stay}
-use Rattle.rules.proofs.Cases.{word_case}
 use Rattle.reports.specs.Log.{Logged, append_event, append_events, outcome_of, StepResult, expected, actual}
 use Rattle.reports.specs.declared.Stop.TheVariants.{Left, Halt, Ended}
 use Rattle.reports.proofs.Append.{appended_append}
+use Rattle.reports.proofs.Then.{ran_there}
 use Rattle.entry.specs.Entry.{answer_number, passed}
 use Rattle.batch.specs.Batch.{called, told}
 
-different : {A : Type 0} → ◌≡◌ {A = ℕ} 0 1 → A
-different z = absurd (omega arith)
-
 -- ---- how a step went
-only_ran : (o : rules.Outcome) → Ok tt ≡ outcome_of o → o ≡ rules.ran
-only_ran rules.ran e = refl
-only_ran rules.left e = different cc
-only_ran (rules.halt h) e = different cc
-only_ran (rules.ended ms) e = different cc
-
 only_left : (o : rules.Outcome) → Err Left ≡ outcome_of o → o ≡ rules.left
 only_left rules.ran e = different cc
 only_left rules.left e = refl
@@ -51,7 +42,7 @@ module _ (l : Logged) (r : Run) {t : KernelState} {m : Logged} where
   unfolding expected told answer
   call_ran e =
       ap (λ (x : StepResult). called true x.state x.log) e
-      ∙ ap (λ o. told l (answer_on o r.state r.events)) (sym (only_ran r.outcome (ap (λ (x : StepResult). x.outcome) e)))
+      ∙ ap (λ o. told l (answer_on o r.state r.events)) (sym (ran_there l r e).0)
 
   pub call_left : actual (Err Left) t m ≡ expected l r → called true t m ≡ told l (answer r)
   unfolding expected told answer
@@ -84,7 +75,7 @@ pass_case : (P : calls.Answer → Type 0) (s : KernelState) → (counts_fit s �
 unfolding pass
 pass_case P s h g =
     pick_case P _ _ _
-    (λ f. pick_case P _ _ _ (λ _. pick_case P _ _ _ (λ _. word_case P _ _ _ (λ n _. h f n) (λ _. g 4)) (λ _. g 3)) (λ _. g 2))
+    (λ f. pick_case P _ _ _ (λ _. pick_case P _ _ _ (λ _. some_case P _ _ _ (λ n _. h f n) (λ _. g 4)) (λ _. g 3)) (λ _. g 2))
     (λ _. g 1)
 
 -- the lists' counts fit before a pass that is not refused, and so after it

@@ -2,11 +2,11 @@
 // What a step takes, the rows too, stands apart, as in `reports`.
 #![tactic(auto)]
 
-ghost use Rattle.std.specs.Prelude.{◌≡◌, ◌+◌, ◌/◌, leb, length};
+ghost use Rattle.std.specs.Prelude.{◌≡◌, ◌/◌, length};
 ghost use Rattle.state.specs.declared.KernelEvent.TheVariants as event;
 ghost use Rattle.rules.specs.Phases.{phases};
 ghost use Rattle.rules.specs.Calls.{halted, answer};
-ghost use Rattle.rules.specs.Batch.{call_records, run, returned_run};
+ghost use Rattle.rules.specs.Batch.{run, returned_run};
 ghost use Rattle.reports.specs.Log.{log_of, append_event};
 ghost use Rattle.batch.specs.Batch.{called, told, actual_run};
 
@@ -14,7 +14,7 @@ use book::config::Config;
 use entry::{may_advance, pass};
 use phases::phases;
 use reports::Stop;
-use reports::log::{Log, WORDS};
+use reports::log::Log;
 use state::{HaltReason, KernelEvent, KernelState, Refusal, Status};
 
 // The records of the log that another call must have room for.
@@ -54,13 +54,6 @@ fn call(cfg: &Config, rows: &[u64], s: &mut KernelState, log: &mut Log) -> bool
     }
 }
 
-// Whether the log has room for another call's events.
-fn has_room(records: usize, raised: u64) -> bool
-    ensures { result ≡ leb (raised + call_records) records }
-{
-    records.saturating_sub(raised as usize) >= CALL_RECORDS
-}
-
 // Advances and passes by turns, up to a number of passes, while nothing else is wanted and the log has room for another call's events.
 pub fn run(
     cfg: &Config,
@@ -79,7 +72,6 @@ pub fn run(
             last: 0,
         };
     }
-    let records = log.len() / WORDS;
     let mut log = Log {
         words: log,
         raised: 0,
@@ -87,7 +79,7 @@ pub fn run(
     let mut before = 0;
     let mut stays = call(cfg, rows, &mut state, &mut log);
     for _ in 0..passes {
-        if !stays || !has_room(records, log.raised) || pass(&mut state).is_err() {
+        if !stays || !log.has_room(CALL_RECORDS) || pass(&mut state).is_err() {
             break;
         }
         before = log.raised;

@@ -9,7 +9,7 @@ use lib.ListN.{length, take, drop, length-append, length-drop}
 use lib.Seq.{take_at, drop_at, take-length, take-append-add}
 use borrow.Author.Tests.{lt-ltb, le-ltb, ltb-true, ltb-false, leb-true}
 use Rattle.numbers.specs.Choice.{pick}
-use Rattle.lists.proofs.Cases.{pick_case, true_false}
+use Rattle.lists.proofs.Cases.{pick_case, different}
 use Rattle.state.specs.Numbers.{is_terminal_phase}
 use Rattle.book.specs.declared.config.Config.{Config}
 use Rattle.state.specs.declared.KernelEvent.{KernelEvent}
@@ -20,7 +20,7 @@ use Rattle.rules.specs.Log.{event_words, written}
 use Rattle.rules.specs.Calls.{Did, refused, stays, halts, ends, Answer, advance, pass, counts_fit, is_paused, refusal_of}
 use Rattle.rules.specs.Batch as batch
 use Rattle.rules.proofs.Cases.{both}
-use Rattle.reports.proofs.Append.{twelve}
+use Rattle.reports.proofs.Append.{twelve, length-written}
 use Rattle.text.specs.Bytes.{bytes}
 use Rattle.logline.specs.Record.{event_line}
 use Rattle.lines.specs.Print.{printed, records_of, call_text, filled_lots, filled_from, filled_after}
@@ -32,7 +32,7 @@ pass_waits : (s : KernelState) → is_paused s.control.phase ≡ false → batch
 unfolding pass
 pass_waits s h =
     pick_case (λ (a : Answer). batch.is_stay a.did ≡ false) (counts_fit s) _ _
-    (λ _. pick_case (λ (a : Answer). batch.is_stay a.did ≡ false) (is_paused s.control.phase) _ _ (λ p. true_false (sym p ∙ h)) (λ _. refl))
+    (λ _. pick_case (λ (a : Answer). batch.is_stay a.did ≡ false) (is_paused s.control.phase) _ _ (λ p. different (cc (sym p ∙ h))) (λ _. refl))
     (λ _. refl)
 
 -- ---- the lines of events and the lots that their reports fill, whatever log they stand in
@@ -77,13 +77,6 @@ sum_is sum (suc n) log [] h k = absurd (omega arith)
 sum_is sum (suc n) log (e ∷ es) h k =
     let r : 12 ≤ length log = omega arith in
     rw (first-words log e es r, rest-words log e es r, sum_is (min (sum + filled_lots (event_words e)) 18446744073709551615) n (drop 12 log) es (omega arith) (omega (arith, length-drop 12 log)))
-
-length-written : (log : List ℕ) (es : List KernelEvent) → length (written log es) ≡ length log
-unfolding written
-length-written log [] = refl
-length-written log (e ∷ es) = pick_case (λ (l : List ℕ). length l ≡ length log) (ltb (length log) 12) _ _
-    (λ _. refl)
-    (λ h. length-append (event_words e) (written (drop 12 log) es) ∙ omega (arith, twelve e, length-written (drop 12 log) es, length-drop 12 log, ltb-false (length log) 12 h))
 
 -- ---- "The log is 512 records; a call raising more then adds `cut`", by the events
 abbrev pub shown : List KernelEvent → ℕ
@@ -139,7 +132,7 @@ module _ (es : List KernelEvent) (h : length es ≤ 512) where
 
 -- ---- a call behind which another follows
 stay_zero : (d : Did) → batch.is_stay d ≡ true → refusal_of d ≡ 0
-stay_zero (refused n) e = let z : ◌≡◌ {A = ℕ} 0 1 = cc in absurd (omega arith)
+stay_zero (refused n) e = different cc
 stay_zero stays e = refl
 stay_zero (halts h) e = refl
 stay_zero (ends ms) e = refl
@@ -152,7 +145,7 @@ module _ (s : KernelState) (h : batch.is_stay (pass s).did ≡ true) where
       go BeforeMatch g = refl
       go ObsQueued g = refl
       go AwaitDecision g = refl
-      go Terminal g = let z : ◌≡◌ {A = ℕ} 0 1 = cc (sym h ∙ g refl) in absurd (omega arith)
+      go Terminal g = different (cc (sym h ∙ g refl))
 
   goes : has_more s ≡ true
   unfolding has_more pick

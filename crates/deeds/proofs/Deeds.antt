@@ -1,12 +1,12 @@
 -- What a message does, one law for each way out. Assumes nothing.
 use Prim.Native.Nat.{ℕ, ◌+◌}
-use mathlib.Core.Bool.{Bool, true, false}
-use mathlib.Core.Path.{◌≡◌, refl, sym, ap, ◌∙◌}
+use mathlib.Core.Bool.{true, false}
+use mathlib.Core.Path.{◌≡◌, refl, ap, ◌∙◌}
 use Rattle.std.specs.Prelude.{Some, None, Result, Ok}
-use Rattle.numbers.specs.Choice.{pick, on_some}
+use Rattle.numbers.specs.Choice.{on_some}
 use Rattle.numbers.specs.Words.{fitting}
 use Rattle.lists.specs.Lists.{put_of, pushed, put_before, taken_of, taken_at}
-use Rattle.lists.proofs.Cases.{true_false}
+use Rattle.lists.proofs.Cases.{on_true, on_false}
 use Rattle.lists.proofs.Exits.{none_same}
 use Rattle.lists.specs.declared.Arr.{Arr}
 use Rattle.lists.specs.declared.Full.{Full}
@@ -24,27 +24,16 @@ use Rattle.rules.specs.Messages.{await, await_marked, book, schedule, on_activat
 use Rattle.reports.specs.Log.{Logged, StepResult, expected, actual, run_of}
 use Rattle.reports.proofs.Then.{full_halts, put_run, ran_here, take_none}
 
--- ---- a choice whose test is known
-pub chosen : {A : Type 0} {b : Bool} (x y : A) {z : A} → b ≡ true → z ≡ x → z ≡ pick b x y
-unfolding pick
-chosen {b = true} x y h e = e
-chosen {b = false} x y h e = true_false (sym h)
-
-pub passed_over : {A : Type 0} {b : Bool} (x y : A) {z : A} → b ≡ false → z ≡ y → z ≡ pick b x y
-unfolding pick
-passed_over {b = true} x y h e = true_false h
-passed_over {b = false} x y h e = e
-
 -- ---- an order with a cancel in flight, and one without
 module _ (o : VenueOrder) (s : KernelState) where
   pub awaited : {l : Orders} (r : Result (Unit {0}) Full) → o.cancel_inflight ≡ true → put_of r l ≡ put_before orders_capacity (id_above o.id) o s.awaiting
       → run_of (full_halts r) (with_awaiting s l) ≡ await_marked o s
   unfolding await_marked await
-  awaited r h e = chosen _ _ h (put_run orders_capacity _ o s.awaiting (with_awaiting s) s r refl e)
+  awaited r h e = put_run orders_capacity _ o s.awaiting (with_awaiting s) s r refl e ∙ on_true _ _ h
 
   pub unmarked : o.cancel_inflight ≡ false → ran_to s ≡ await_marked o s
   unfolding await_marked
-  unmarked h = passed_over _ _ h refl
+  unmarked h = on_false _ _ h
 
 -- ---- an order goes among the booked ones
 pub booked_run : (o : VenueOrder) (s : KernelState) {l : Orders} (r : Result (Unit {0}) Full) → put_of r l ≡ pushed orders_capacity o s.orders → run_of (full_halts r) (with_orders s l) ≡ book o s

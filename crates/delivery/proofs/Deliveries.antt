@@ -3,7 +3,6 @@ use Prim.Native.Nat.{ℕ, suc, ◌+◌, ◌<◌, ◌≤◌}
 use mathlib.Core.List.{List, map}
 use mathlib.Core.Path.{◌≡◌, refl, sym, ap, ◌∙◌}
 use native.Mathlib.Numerals.{add-one}
-use native.Mathlib.Omega.{arith}
 use lib.ListN.{length, drop, get_or, drop_of_length-le}
 use lib.Seq.{drop-cons}
 use Rattle.std.specs.Prelude.{Option, Some, None, Ok, Err}
@@ -11,6 +10,7 @@ use Rattle.std.specs.Option.{ok_or}
 use Rattle.numbers.specs.Choice.{on_some}
 use Rattle.numbers.specs.Words.{fitting}
 use Rattle.lists.specs.Lists.{live, popped, taken_of, emptied}
+use Rattle.lists.proofs.Cases.{different}
 use Rattle.lists.proofs.Exits.{none_same}
 use Rattle.book.specs.Entries.{blank_msg, blank_delivery, blank_obs}
 use Rattle.book.specs.declared.Delivery.{Delivery}
@@ -102,7 +102,7 @@ module _ (l m : Logged) (s : KernelState) (q : Msgs) (o : Observed)
       → actual (Err (stop.Halt h)) t m ≡ expected l (close_data s)
   unfolding close_data empty_queues on_some
   msgs_uncounted {h = h} None e g = behind _ (let z : h ≡ CounterOverflow = cc in rw (z, ← hq, ← ho, ← e) (halted_here m CounterOverflow t))
-  msgs_uncounted (Some x) e g = let z : ◌≡◌ {A = ℕ} 0 1 = cc in absurd (omega arith)
+  msgs_uncounted (Some x) e g = different cc
 
   module _ (n : ℕ) (hn : Some n ≡ fitting (s.counters.eof_dropped_msgs + s.msgs.count)) where
     abbrev u : KernelState
@@ -113,7 +113,7 @@ module _ (l m : Logged) (s : KernelState) (q : Msgs) (o : Observed)
         → actual (Err (stop.Halt h)) u m ≡ expected l (close_data s)
     unfolding close_data empty_queues on_some
     observed_uncounted {h = h} None e g = behind _ (let z : h ≡ CounterOverflow = cc in rw (z, ← hq, ← ho, ← hn, ← e) (halted_here m CounterOverflow u))
-    observed_uncounted (Some x) e g = let z : ◌≡◌ {A = ℕ} 0 1 = cc in absurd (omega arith)
+    observed_uncounted (Some x) e g = different cc
 
     pub closed : (k : ℕ) {z : Logged} {c : Control} → Some k ≡ fitting (s.counters.eof_dropped_obs + s.observed.count)
         → c ≡ control_status (control_phase s.control phase.Terminal) status.EndOfData → z ≡ append_event m (EndOfData s.msgs.count s.observed.count)

@@ -39,7 +39,7 @@ fn with_lots(sum: u64, records: &[Record]) -> u64
         .fold(sum, u64::saturating_add)
 }
 
-// The records that are printed of one call.
+// The records that are printed of one call. `batch` has the same number for the room that a call must have, since what prints stands on nothing of the kernel.
 const PRINTED_RECORDS: u64 = 512;
 
 // What several calls raised: the log that has it, how many events it is, and how many of them the last call raised.

@@ -22,8 +22,25 @@ unfolding on_some
 some_case P None k z h g = g refl
 some_case P (Some x) k z h g = h x refl
 
-pub some_none : {A : Type 0} {P : Type 0} {x : A} → Some x ≡ None → P
-some_none q = let z : ◌≡◌ {A = ℕ} 0 1 = cc in absurd (omega arith)
+-- ---- a choice whose test is known
+module _ {A : Type 0} (x y : A) {b : Bool} where
+  pub on_true : b ≡ true → x ≡ pick b x y
+  unfolding pick
+  on_true h = rw h
 
-pub true_false : {P : Type 0} → true ≡ false → P
-true_false q = let z : ◌≡◌ {A = ℕ} 0 1 = cc in absurd (omega arith)
+  pub on_false : b ≡ false → y ≡ pick b x y
+  unfolding pick
+  on_false h = rw h
+
+module _ {A B : Type 0} (k : A → B) (z : B) {o : Option A} where
+  pub on_none : o ≡ None → z ≡ on_some o k z
+  unfolding on_some
+  on_none h = rw h
+
+  pub on_one : {x : A} → o ≡ Some x → k x ≡ on_some o k z
+  unfolding on_some
+  on_one h = rw h
+
+-- ---- facts of two ways out at once prove anything: by `cc` they make 0 the number 1
+pub different : {A : Type 0} → ◌≡◌ {A = ℕ} 0 1 → A
+different z = absurd (omega arith)

@@ -16,7 +16,7 @@ use Rattle.std.specs.Slice.{IsItemAt}
 use Rattle.std.proofs.lemmas.Option.{slice_get-get_or, slice_get_past, slice_get_read}
 use Rattle.numbers.specs.Choice.{pick}
 use Rattle.lists.specs.Lists.{Put, Taken, put_of, taken_of, below, live, placed, without, put_at, taken_at, entry_at, store_at, emptied}
-use Rattle.lists.proofs.Cases.{pick_case, pick_both, some_none, true_false}
+use Rattle.lists.proofs.Cases.{pick_case, pick_both, different}
 use Rattle.lists.proofs.Loops.{Inserting, insert_done, Removing, remove_done, Emptying, empty_done, push_slots}
 use Rattle.lists.specs.declared.Arr.{Arr}
 use Rattle.lists.specs.declared.Full.{Full}
@@ -74,15 +74,15 @@ module _ {A : Type 0} {n : ℕ} (cap : ℕ) (r : Arr A n) where
   unfolding entry_at
   entry_tells d x p =
       pick_case (λ o. Some x ≡ o → (r.count ≤ cap) × (p < r.count) × (x ≡ get_or r.slots p d)) (leb r.count cap) _ _
-      (λ e. pick_case (λ o. Some x ≡ o → (r.count ≤ cap) × (p < r.count) × (x ≡ get_or r.slots p d)) (ltb p r.count) _ _ (λ f q. (leb-true _ _ e, ltb-true _ _ f, cc)) (λ _ q. some_none q))
-      (λ _ q. some_none q)
+      (λ e. pick_case (λ o. Some x ≡ o → (r.count ≤ cap) × (p < r.count) × (x ≡ get_or r.slots p d)) (ltb p r.count) _ _ (λ f q. (leb-true _ _ e, ltb-true _ _ f, cc)) (λ _ q. different cc))
+      (λ _ q. different cc)
 
   -- ---- an entry comes out: there is none, or the loop is done and b, a blank, is stored
   pub take_none : (d : A) (p : ℕ) → None ≡ entry_at cap d p r → taken_of None r ≡ taken_at cap d p r
   unfolding taken_at entry_at
   take_none d p =
       pick_both (λ (o : Option A) (t : Taken A n). None ≡ o → taken_of None r ≡ t) (leb r.count cap) _ _ _ _
-      (λ _. pick_both (λ (o : Option A) (t : Taken A n). None ≡ o → taken_of None r ≡ t) (ltb p r.count) _ _ _ _ (λ _ q. some_none (sym q)) (λ _ _. refl))
+      (λ _. pick_both (λ (o : Option A) (t : Taken A n). None ≡ o → taken_of None r ≡ t) (ltb p r.count) _ _ _ _ (λ _ q. different cc) (λ _ _. refl))
       (λ _ _. refl)
 
   pub take_in : {d b : A} {p i : ℕ} {l : List A} → r.count ≤ cap → b ≡ d → r.count - 1 ≤ i → Removing d p r.count r.slots i l
@@ -121,12 +121,12 @@ module _ {A : Type 0} {n : ℕ} (cap : ℕ) (r : Arr A n) where
   unfolding put_at
   full_same p v f l e =
       pick_case (λ q. put_of (Err f) l ≡ q → l ≡ r) (ltb r.count cap) _ _
-      (λ _. pick_case (λ q. put_of (Err f) l ≡ q → l ≡ r) (leb p r.count) _ _ (λ _ g. true_false (sym (ap (λ (q : Put A n). q.ok) g))) (λ _ g. ap (λ (q : Put A n). q.list) g))
+      (λ _. pick_case (λ q. put_of (Err f) l ≡ q → l ≡ r) (leb p r.count) _ _ (λ _ g. different (cc (ap (λ (q : Put A n). q.ok) g))) (λ _ g. ap (λ (q : Put A n). q.list) g))
       (λ _ g. ap (λ (q : Put A n). q.list) g) e
 
   pub none_same : (d : A) (p : ℕ) (l : Arr A n) → taken_of None l ≡ taken_at cap d p r → l ≡ r
   unfolding taken_at
   none_same d p l e =
       pick_case (λ q. taken_of None l ≡ q → l ≡ r) (leb r.count cap) _ _
-      (λ _. pick_case (λ q. taken_of None l ≡ q → l ≡ r) (ltb p r.count) _ _ (λ _ g. some_none (sym (ap (λ (q : Taken A n). q.got) g))) (λ _ g. ap (λ (q : Taken A n). q.list) g))
+      (λ _. pick_case (λ q. taken_of None l ≡ q → l ≡ r) (ltb p r.count) _ _ (λ _ g. different (cc (ap (λ (q : Taken A n). q.got) g))) (λ _ g. ap (λ (q : Taken A n). q.list) g))
       (λ _ g. ap (λ (q : Taken A n). q.list) g) e

@@ -1,14 +1,13 @@
 -- A fill: one law for each way out. Assumes nothing.
 use Prim.Native.Nat.{ℕ, ◌+◌, ◌*◌, ◌≤◌}
 use mathlib.Core.Bool.{true, false}
-use mathlib.Core.Path.{◌≡◌, refl, sym, ap, ◌∙◌, subst}
-use native.Mathlib.Omega.{arith}
+use mathlib.Core.Path.{◌≡◌, sym, ap, ◌∙◌, subst}
 use borrow.Author.Tests.{eq-eqb, ne_eqb}
 use Rattle.std.specs.Prelude.{Option, Some, None, Result, Ok, Err, ok_or}
 use Rattle.numbers.specs.Choice.{pick, on_some}
-use Rattle.numbers.specs.Words.{fits, fitting}
+use Rattle.numbers.specs.Words.{fitting}
 use Rattle.lists.specs.Lists.{Put, entry_at, store_at, put_of}
-use Rattle.lists.proofs.Cases.{pick_case, some_case, some_none}
+use Rattle.lists.proofs.Cases.{some_case, different}
 use Rattle.lists.specs.declared.Full.{Full}
 use Rattle.book.specs.Capacities.{orders_capacity}
 use Rattle.book.specs.Entries.{blank_order, remaining}
@@ -28,34 +27,21 @@ use Rattle.state.specs.declared.KernelState.{KernelState}
 use Rattle.rules.specs.Run.{ran, halt, Run, ran_to, halt_at}
 use Rattle.rules.specs.Report.{stamp, report_at, queue_delivery}
 use Rattle.rules.specs.Matching.{matches, fill_lots, gate_filled, filled_by, fill_kind, fill_record, fill_report, fill_counted, fill_event, fill_at, fills, fills_of, fills_at, match_at}
+use Rattle.rules.proofs.Cases.{fits_some, fits_none}
 use Rattle.rules.proofs.HeldMatching.{There, fills-there}
 use Rattle.reports.specs.Log.{Logged, append_event, StepResult, expected, actual}
 use Rattle.reports.specs.Report.{stamp_of}
 use Rattle.reports.specs.declared.Stop.{Stop}
 use Rattle.reports.specs.declared.Stop.TheVariants as stop
 use Rattle.reports.specs.declared.report.Stamped.{Stamped}
-use Rattle.reports.proofs.Then.{quiet_on, quiet_stop, then_on, then_stop, ran_here, halted_here, raise_here}
-
--- ---- the halt of a value that is not there
-pub absent : {A E : Type 0} {h e : E} (o : Option A) → Err e ≡ ok_or o h → (o ≡ None) × (e ≡ h)
-absent None q = (refl, cc)
-absent (Some x) q = let z : ◌≡◌ {A = ℕ} 0 1 = cc in absurd (omega arith)
-
--- a number that fits, and one that does not
-fits_some : (n : ℕ) {x : ℕ} → fitting n ≡ Some x → fits n ≡ true
-unfolding fitting
-fits_some n {x} = pick_case (λ o. o ≡ Some x → fits n ≡ true) (fits n) _ _ (λ e _. e) (λ _ q. some_none (sym q))
-
-fits_none : (n : ℕ) → fitting n ≡ None → fits n ≡ false
-unfolding fitting
-fits_none n = pick_case (λ o. o ≡ None → fits n ≡ false) (fits n) _ _ (λ _ q. some_none q) (λ e _. e)
+use Rattle.reports.proofs.Then.{none_of, quiet_on, quiet_stop, then_on, then_stop, ran_here, halted_here, raise_here}
 
 -- a stamp takes no execution number
 stamp_exec : (s t : KernelState) → ran_to t ≡ stamp s → t.seqs.next_exec_id ≡ s.seqs.next_exec_id
 unfolding stamp
 stamp_exec s t = some_case (λ (r : Run). ran_to t ≡ r → t.seqs.next_exec_id ≡ s.seqs.next_exec_id) (fitting (s.seqs.stamp_seq + 1)) _ _
     (λ n _ q. ap (λ (r : Run). r.state.seqs.next_exec_id) q)
-    (λ _ q. let m : ran ≡ halt CounterOverflow = ap (λ (r : Run). r.outcome) q in let z : ◌≡◌ {A = ℕ} 0 1 = cc in absurd (omega arith))
+    (λ _ q. let m : ran ≡ halt CounterOverflow = ap (λ (r : Run). r.outcome) q in different cc)
 
 -- ---- a fill up to its event: t is the state that its stamp leaves
 module _ (l : Logged) (o : VenueOrder) (n : ℕ) (s t : KernelState) where
@@ -66,20 +52,20 @@ module _ (l : Logged) (o : VenueOrder) (n : ℕ) (s t : KernelState) where
   module _ (e : ran_to t ≡ stamp s) {g : Option GateState} (eg : g ≡ gate_filled o.side n t.gate) where
     pub event_ungated : {h : HaltReason} → Err h ≡ ok_or g CounterOverflow → actual (Err (stop.Halt h)) t l ≡ expected l (fill_event o n s)
     unfolding fill_event on_some
-    event_ungated q = let w = absent g q in quiet_on l (stamp s) _ e (rw (← eg, w.0, w.1) (halted_here l CounterOverflow t))
+    event_ungated q = let w = none_of g q in quiet_on l (stamp s) _ e (rw (← eg, w.0, w.1) (halted_here l CounterOverflow t))
 
     module _ {kept : GateState} (k : g ≡ Some kept) {doubled : Option ℕ} (ed : doubled ≡ fitting (o.price * 2)) where
       pub event_priceless : {h : HaltReason} → Err h ≡ ok_or doubled LedgerOverflow → actual (Err (stop.Halt h)) t l ≡ expected l (fill_event o n s)
       unfolding fill_event on_some pick
       event_priceless q =
-          let w = absent doubled q in
+          let w = none_of doubled q in
           quiet_on l (stamp s) _ e (rw (← eg, k, fits_none (o.price * 2) (sym ed ∙ w.0), w.1) (halted_here l LedgerOverflow t))
 
       module _ {x : ℕ} (d : doubled ≡ Some x) {exec : Option ℕ} (ee : exec ≡ fitting (t.seqs.next_exec_id + 1)) where
         pub event_unnumbered : {h : HaltReason} → Err h ≡ ok_or exec CounterOverflow → actual (Err (stop.Halt h)) t l ≡ expected l (fill_event o n s)
         unfolding fill_event on_some pick
         event_unnumbered q =
-            let w = absent exec q in
+            let w = none_of exec q in
             quiet_on l (stamp s) _ e (rw (← eg, k, fits_some (o.price * 2) (sym ed ∙ d), ← ee, w.0, w.1) (halted_here l CounterOverflow t))
 
         module _ {next : ℕ} (b : exec ≡ Some next) {count : Option ℕ} (ec : count ≡ fitting (t.counters.venue_fills + 1)) where
@@ -90,7 +76,7 @@ module _ (l : Logged) (o : VenueOrder) (n : ℕ) (s t : KernelState) where
           pub event_uncounted : {h : HaltReason} → Err h ≡ ok_or count CounterOverflow → actual (Err (stop.Halt h)) numbered l ≡ expected l (fill_event o n s)
           unfolding fill_event fill_counted on_some pick
           event_uncounted q =
-              let w = absent count q in
+              let w = none_of count q in
               quiet_on l (stamp s) _ e
               (rw (← eg, k, fits_some (o.price * 2) (sym ed ∙ d), ← ee, b, ← ec, w.0, w.1) (halted_here l CounterOverflow numbered))
 
@@ -151,7 +137,7 @@ module _ (l : Logged) (c : Config) (row : KernelTick) (i : ℕ) (s : KernelState
     module _ (m : true ≡ matches row o) {lots : Option ℕ} (el : lots ≡ fill_lots c.fill row o) where
       pub unruled : {h : HaltReason} → Err h ≡ ok_or lots CounterOverflow → actual (Err (stop.Halt h)) s l ≡ expected l (match_at c row i s)
       unfolding match_at fills_at fills_of on_some pick
-      unruled q = let w = absent lots q in rw (← e, ← m, ← el, w.0, w.1) (halted_here l CounterOverflow s)
+      unruled q = let w = none_of lots q in rw (← e, ← m, ← el, w.0, w.1) (halted_here l CounterOverflow s)
 
       module _ {n : ℕ} (k : lots ≡ Some n) where
         pub no_lots : n ≡ 0 → actual (Ok tt) s l ≡ expected l (match_at c row i s)

@@ -27,8 +27,7 @@ use Rattle.rules.specs.Matching.{fills_at, match_at, match_from, leave, terminal
 use Rattle.reports.specs.Log.{Logged, expected, actual, halting, run_of}
 use Rattle.reports.specs.declared.Stop.{Stop}
 use Rattle.reports.specs.declared.Stop.TheVariants as stop
-use Rattle.reports.proofs.Then.{quiet, then_on, then_stop, ran_here, halted_here}
-use Rattle.matching.proofs.Fills.{absent}
+use Rattle.reports.proofs.Then.{none_of, quiet, then_on, then_stop, ran_here, halted_here}
 
 -- ---- where no turn does anything: the count is above the capacity, and no order stands at any place
 match_idle : (c : Config) (row : KernelTick) (s : KernelState) → ((i : ℕ) → match_at c row i s ≡ ran_to s) → (k i : ℕ) → match_from c row k i s ≡ ran_to s
@@ -130,7 +129,7 @@ module _ (n i place : ℕ) (s : KernelState) where
 module _ (l : Logged) (c : Config) (row : KernelTick) (s : KernelState) {mid2 : Option ℕ} (e : mid2 ≡ fitting (row.bid + row.ask)) where
   pub row_overflow : {h : HaltReason} → Err h ≡ ok_or mid2 LedgerOverflow → actual (Err (stop.Halt h)) s l ≡ expected l (match_row c row s)
   unfolding match_row on_some
-  row_overflow q = let w = absent mid2 q in rw (← e, w.0, w.1) (halted_here l LedgerOverflow s)
+  row_overflow q = let w = none_of mid2 q in rw (← e, w.0, w.1) (halted_here l LedgerOverflow s)
 
   module _ {x : ℕ} (k : mid2 ≡ Some x) {g : GateState} (eg : g ≡ gate_marked x s.gate) {t : KernelState} {m : Logged} where
     pub row_stop : {w : Stop} → actual (Err w) t m ≡ expected l (match_from c row s.orders.count 0 (with_gate s g)) → actual (Err w) t m ≡ expected l (match_row c row s)

@@ -1,17 +1,16 @@
 -- The phases: one law for each way out of a function. Assumes nothing.
 use Prim.Native.Nat.{ℕ, ◌+◌, ◌/◌, ◌≤◌, ◌<◌, max}
-use mathlib.Core.Bool.{Bool, true, false}
+use mathlib.Core.Bool.{true, false}
 use mathlib.Core.List.{List}
-use mathlib.Core.Path.{◌≡◌, refl, ap, ◌∙◌}
-use native.Mathlib.Omega.{arith}
+use mathlib.Core.Path.{◌≡◌, ap, ◌∙◌}
 use lib.Dec.{ltb}
 use lib.ListN.{length}
 use borrow.Author.Tests.{le-leb, lt-leb, ltb-true}
-use Rattle.std.specs.Prelude.{Option, Some, None, Ok, Err, ok_or, is_some}
-use Rattle.numbers.specs.Choice.{pick, on_some}
+use Rattle.std.specs.Prelude.{Option, Some, None, Ok, Err, is_some}
+use Rattle.numbers.specs.Choice.{pick}
 use Rattle.numbers.specs.Words.{fits, fitting}
 use Rattle.lists.specs.Lists.{put_of, pushed}
-use Rattle.lists.proofs.Cases.{pick_case}
+use Rattle.lists.proofs.Cases.{pick_case, on_true, on_false, on_none, on_one, different}
 use Rattle.lists.proofs.Exits.{full_same}
 use Rattle.lists.specs.declared.Full.{Full}
 use Rattle.book.specs.Capacities.{observed_capacity}
@@ -32,50 +31,11 @@ use Rattle.rules.specs.Matching.{match_row}
 use Rattle.rules.specs.Delivery.{end_of_data}
 use Rattle.rules.specs.Events.{clock_to, truncated, truncates, run_events}
 use Rattle.rules.specs.Phases.{row_at, queue_observation, match_phase, before_match, settle_row, settle, to_row, to_next_row, next_row}
+use Rattle.rules.proofs.Cases.{fits_some, fits_none}
 use Rattle.reports.specs.Log.{Logged, append_event, StepResult, expected, actual}
 use Rattle.reports.specs.declared.Stop.{Stop}
 use Rattle.reports.specs.declared.Stop.TheVariants.{Halt}
 use Rattle.reports.proofs.Then.{ran_here, halted_here, then_on, then_stop, raise_here, put_on, put_full}
-
-different : {A : Type 0} → ◌≡◌ {A = ℕ} 0 1 → A
-different z = absurd (omega arith)
-
--- ---- choices whose test is known
-module _ {A B : Type 0} (k : A → B) (z : B) {o : Option A} where
-  on_none : o ≡ None → z ≡ on_some o k z
-  unfolding on_some
-  on_none h = rw h
-
-  on_one : {x : A} → o ≡ Some x → k x ≡ on_some o k z
-  unfolding on_some
-  on_one h = rw h
-
-module _ {A : Type 0} (x y : A) {b : Bool} where
-  on_true : b ≡ true → x ≡ pick b x y
-  unfolding pick
-  on_true h = rw h
-
-  on_false : b ≡ false → y ≡ pick b x y
-  unfolding pick
-  on_false h = rw h
-
--- what an `ok_or` found
-pub some_of : {A E : Type 0} (o : Option A) (h : E) {x : A} → Ok x ≡ ok_or o h → o ≡ Some x
-some_of (Some y) h e = cc
-some_of None h e = different cc
-
-pub none_of : {A E : Type 0} (o : Option A) (h : E) {e : E} → Err e ≡ ok_or o h → (o ≡ None) × (e ≡ h)
-none_of (Some y) h e = different cc
-none_of None h e = (refl, cc)
-
--- whether a sum is a number of 64 bits
-fits_not : (n : ℕ) → fitting n ≡ None → fits n ≡ false
-unfolding fitting
-fits_not n e = pick_case (λ (o : Option ℕ). o ≡ None → fits n ≡ false) (fits n) _ _ (λ _ f. different cc) (λ h _. h) e
-
-fits_well : (n : ℕ) {x : ℕ} → fitting n ≡ Some x → fits n ≡ true
-unfolding fitting
-fits_well n {x = x} e = pick_case (λ (o : Option ℕ). o ≡ Some x → fits n ≡ true) (fits n) _ _ (λ h _. h) (λ _ f. different cc) e
 
 -- ---- the observation
 module _ (c : Config) (i : ℕ) (row : KernelTick) (s : KernelState) {t : KernelState} where
@@ -181,10 +141,10 @@ module _ (c : Config) (rows : List ℕ) (s : KernelState) (l : Logged) where
     module _ {t : KernelState} {m : Logged} (e : actual (Ok tt) t m ≡ expected l (run_events c row.ts_ns s)) where
       -- the doubled mid does not fit
       pub settle_past : fitting (row.bid + row.ask) ≡ None → actual (Err (Halt LedgerOverflow)) t m ≡ expected l (settle c rows s)
-      settle_past f = settled (then_on l (run_events c row.ts_ns s) ending e (halted_here m LedgerOverflow t ∙ ap (expected m) (on_false _ _ (fits_not _ f))))
+      settle_past f = settled (then_on l (run_events c row.ts_ns s) ending e (halted_here m LedgerOverflow t ∙ ap (expected m) (on_false _ _ (fits_none _ f))))
 
       pub settle_told : {x : ℕ} {n : Logged} → fitting (row.bid + row.ask) ≡ Some x → n ≡ append_event m (RowEnd i row.ts_ns) → actual (Ok tt) t n ≡ expected l (settle c rows s)
-      settle_told f p = settled (then_on l (run_events c row.ts_ns s) ending e (raise_here m _ (RowEnd i row.ts_ns) t p ∙ ap (expected m) (on_true _ _ (fits_well _ f))))
+      settle_told f p = settled (then_on l (run_events c row.ts_ns s) ending e (raise_here m _ (RowEnd i row.ts_ns) t p ∙ ap (expected m) (on_true _ _ (fits_some _ f))))
 
 -- ---- the next row
 -- there is a row only below the count of the rows

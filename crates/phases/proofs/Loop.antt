@@ -4,22 +4,18 @@ use mathlib.Core.Bool.{true, false}
 use mathlib.Core.List.{List}
 use mathlib.Core.Logic.{◌⊎◌, inl, inr}
 use mathlib.Core.Path.{◌≡◌, refl, sym, ap, ◌∙◌, subst}
-use native.Mathlib.Omega.{arith}
 use Rattle.std.specs.Prelude.{Result, Ok, Err, is_err}
+use Rattle.lists.proofs.Cases.{different}
 use Rattle.book.specs.declared.config.Config.{Config}
 use Rattle.state.specs.declared.KernelState.{KernelState}
 use Rattle.state.specs.declared.Phase.TheVariants.{BeforeMatch, ObsQueued, AwaitDecision, Terminal}
-use Rattle.rules.specs.Run as rules
 use Rattle.rules.specs.Run.{Run, ran_to, again, last}
 use Rattle.rules.specs.Phases.{before_match, obs_queued, on_phase, phase_turn, turns, phases}
 use Rattle.rules.proofs.Fewer.{phase_falls, phases-again, phases-last}
-use Rattle.reports.specs.Log.{Logged, log_of, outcome_of, StepResult, expected, actual}
+use Rattle.reports.specs.Log.{Logged, log_of, StepResult, expected, actual}
 use Rattle.reports.specs.declared.Stop.{Stop}
 use Rattle.reports.specs.declared.log.Log.{Log}
-use Rattle.reports.proofs.Then.{ran_here, then_on, then_stop}
-
-different : {A : Type 0} → ◌≡◌ {A = ℕ} 0 1 → A
-different z = absurd (omega arith)
+use Rattle.reports.proofs.Then.{ran_here, ran_there, then_on, then_stop}
 
 -- ---- what a phase does
 module _ (c : Config) (rows : List ℕ) (s : KernelState) where
@@ -43,22 +39,6 @@ module _ (c : Config) (rows : List ℕ) (s : KernelState) where
 pub left_as : {o p : Result (Unit {0}) Stop} {t u : KernelState} {m n : Log} {x : StepResult} → o ≡ p → t ≡ u → m ≡ n → actual p u (log_of n) ≡ x → actual o t (log_of m) ≡ x
 left_as eo et em e = rw (eo, et, em) e
 
--- ---- a step that ran, and left t
-module _ (l : Logged) (r : Run) {t : KernelState} {m : Logged} (e : actual (Ok tt) t m ≡ expected l r) where
-  ran_too : r.outcome ≡ rules.ran
-  unfolding expected
-  ran_too = go r.outcome (ap (λ (x : StepResult). x.outcome) e)
-    where
-      go : (o : rules.Outcome) → Ok tt ≡ outcome_of o → o ≡ rules.ran
-      go rules.ran e = refl
-      go rules.left e = different cc
-      go (rules.halt h) e = different cc
-      go (rules.ended ms) e = different cc
-
-  state_is : r.state ≡ t
-  unfolding expected
-  state_is = sym (ap (λ (x : StepResult). x.state) e)
-
 -- ---- the phases from s, with the log l
 module _ (c : Config) (rows : List ℕ) (s : KernelState) (l : Logged) where
   stays_here : phase_turn c rows s ≡ last (ran_to s) → actual (Ok tt) s l ≡ expected l (phases c rows s)
@@ -80,5 +60,5 @@ module _ (c : Config) (rows : List ℕ) (s : KernelState) (l : Logged) where
     phases_on {o = Err w} h e = different cc
 
     pub phases_fewer : {o : Result (Unit {0}) Stop} → is_err o ≡ false → actual o t m ≡ expected l r → turns rows t < turns rows s
-    phases_fewer {o = Ok v} h e = subst (λ (x : KernelState). turns rows x < turns rows s) (state_is l r e) (phase_falls c rows s r turn (ran_too l r e))
+    phases_fewer {o = Ok v} h e = let g = ran_there l r e in subst (λ (x : KernelState). turns rows x < turns rows s) g.1 (phase_falls c rows s r turn g.0)
     phases_fewer {o = Err w} h e = different cc

@@ -12,6 +12,7 @@ use mir.Val.{Fits}
 use mir.Syntax.{w64}
 use mathlib.Core.Bool.{Bool, true, false}
 use Rattle.numbers.specs.Choice.{pick}
+use Rattle.lists.proofs.Cases.{pick_case}
 use Rattle.state.specs.declared.KernelEvent.{KernelEvent}
 use Rattle.state.specs.declared.KernelEvent.TheVariants.{Report, Fill, Delivered, Observed, RowEnd, EndOfData, Halted, DroppedMsg, Expired, DroppedExpiry}
 use Rattle.rules.specs.Log.{event_words, written}
@@ -75,6 +76,14 @@ pub appended_append : (l : Logged) (es fs : List KernelEvent) → append_events 
 unfolding append_events
 appended_append l [] fs = refl
 appended_append l (e ∷ es) fs = appended_append (append_event l e) es fs
+
+-- a log keeps its length
+pub length-written : (log : List ℕ) (es : List KernelEvent) → length (written log es) ≡ length log
+unfolding written
+length-written log [] = refl
+length-written log (e ∷ es) = pick_case (λ (l : List ℕ). length l ≡ length log) (ltb (length log) 12) _ _
+    (λ _. refl)
+    (λ h. length-append (event_words e) (written (drop 12 log) es) ∙ omega (arith, twelve e, length-written (drop 12 log) es, length-drop 12 log, ltb-false (length log) 12 h))
 
 -- ---- from the log's start, as far as the count goes, the events appended are those written
 written-nowhere : (es : List KernelEvent) → written [] es ≡ []

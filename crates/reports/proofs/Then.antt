@@ -2,9 +2,9 @@
 use Prim.Native.Nat.{ℕ}
 use mathlib.Core.Path.{◌≡◌, refl, sym, ap, ◌∙◌}
 use mathlib.Core.List.{List, ◌++◌, append_assoc}
-use native.Mathlib.Omega.{arith}
-use Rattle.std.specs.Prelude.{Some, None, Result, Ok, Err, IsErr, IsErrAnd}
+use Rattle.std.specs.Prelude.{Option, Some, None, Result, Ok, Err, ok_or, IsErr, IsErrAnd}
 use Rattle.numbers.specs.Choice.{pick, on_some}
+use Rattle.lists.proofs.Cases.{different}
 use Rattle.lists.specs.Lists.{Put, Taken, put_of, taken_of, put_at}
 use Rattle.lists.proofs.Exits.{full_same}
 use Rattle.lists.specs.declared.Arr.{Arr}
@@ -19,8 +19,14 @@ use Rattle.reports.specs.declared.Stop.{Stop}
 use Rattle.reports.specs.declared.Stop.TheVariants as stop
 use Rattle.reports.proofs.Append.{appended_append}
 
-absurd_eq : {A : Type 0} → ◌≡◌ {A = ℕ} 0 1 → A
-absurd_eq z = absurd (omega arith)
+-- ---- what an `ok_or` found
+pub some_of : {A E : Type 0} (o : Option A) (h : E) {x : A} → Ok x ≡ ok_or o h → o ≡ Some x
+some_of (Some y) h e = cc
+some_of None h e = different cc
+
+pub none_of : {A E : Type 0} (o : Option A) {h e : E} → Err e ≡ ok_or o h → (o ≡ None) × (e ≡ h)
+none_of (Some y) q = different cc
+none_of None q = (refl, cc)
 
 -- ---- the error that a `?` hands on
 pub is_the_error : {A E : Type 0} {r : Result A E} {e : E} → IsErr r × IsErrAnd r (λ x. x ≡ e) → r ≡ Err e
@@ -56,20 +62,25 @@ pub quiet : {A : Type 0} (l : Logged) (o : Result A HaltReason) (s : KernelState
 quiet l (Ok v) s e = ran_here l s ∙ ap (expected l) e
 quiet l (Err h) s e = halted_here l h s ∙ ap (expected l) e
 
--- ---- what follows a step: r is what the rules give for it
-only_ran : (o : rules.Outcome) → Ok tt ≡ outcome_of o → o ≡ rules.ran
+-- ---- a step that ran: r is what the rules give for it
+pub only_ran : (o : rules.Outcome) → Ok tt ≡ outcome_of o → o ≡ rules.ran
 only_ran rules.ran e = refl
-only_ran rules.left e = absurd_eq cc
-only_ran (rules.halt h) e = absurd_eq cc
-only_ran (rules.ended ms) e = absurd_eq cc
+only_ran rules.left e = different cc
+only_ran (rules.halt h) e = different cc
+only_ran (rules.ended ms) e = different cc
 
+pub ran_there : (l : Logged) (r : rules.Run) {s : KernelState} {m : Logged} → actual (Ok tt) s m ≡ expected l r → (r.outcome ≡ rules.ran) × (r.state ≡ s)
+unfolding expected
+ran_there l r e = (only_ran r.outcome (ap (λ (x : StepResult). x.outcome) e), sym (ap (λ (x : StepResult). x.state) e))
+
+-- ---- what follows a step
 after_ran : (l : Logged) (r : rules.Run) (k : KernelState → rules.Run) → r.outcome ≡ rules.ran → expected l (rules.and_then r k) ≡ expected (append_events l r.events) (k r.state)
 unfolding expected rules.and_then
 after_ran l r k e = rw e (ap (λ (g : Logged). record { outcome = outcome_of (k r.state).outcome; state = (k r.state).state; log = g }) (sym (appended_append l r.events (k r.state).events)))
 
 after_stop : (r : rules.Run) (k : KernelState → rules.Run) (o : rules.Outcome) (w : Stop) → r.outcome ≡ o → Err w ≡ outcome_of o → rules.and_then r k ≡ r
 unfolding rules.and_then
-after_stop r k rules.ran w e m = absurd_eq cc
+after_stop r k rules.ran w e m = different cc
 after_stop r k rules.left w e m = rw e
 after_stop r k (rules.halt h) w e m = rw e
 after_stop r k (rules.ended ms) w e m = rw e
@@ -80,7 +91,7 @@ module _ (l : Logged) (r : rules.Run) (k : KernelState → rules.Run) {s : Kerne
   unfolding expected
   then_on e p =
       p ∙ ap (λ (x : StepResult). expected x.log (k x.state)) e
-      ∙ sym (after_ran l r k (only_ran r.outcome (ap (λ (x : StepResult). x.outcome) e)))
+      ∙ sym (after_ran l r k (ran_there l r e).0)
 
   -- it did not: what it left is all
   pub then_stop : {w : Stop} → actual (Err w) s m ≡ expected l r → actual (Err w) s m ≡ expected l (rules.and_then r k)

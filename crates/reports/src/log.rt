@@ -1,5 +1,5 @@
 // The log writer.
-ghost use Rattle.std.specs.Prelude.{◌≡◌, [], ◌∷◌};
+ghost use Rattle.std.specs.Prelude.{◌≡◌, ◌+◌, ◌/◌, [], ◌∷◌, leb, length};
 ghost use Rattle.rules.specs.Log.{report_words, fill_words, short_words, event_words, written};
 ghost use Rattle.reports.specs.Log.{log_of, append_event};
 
@@ -93,6 +93,14 @@ fn write_event(rest: &mut [u64], e: KernelEvent)
 }
 
 impl<'a> Log<'a> {
+    // Whether it has room for so many records behind those of the events raised so far.
+    pub fn has_room(&self, records: usize) -> bool
+        ensures { result ≡ leb (self.now.raised + records) (length self.now.words.now / WORDS) }
+    {
+        let left = (self.words.len() / WORDS).checked_sub(self.raised as usize);
+        left.is_some_and(|left| left >= records)
+    }
+
     // The event behind those before it: the part from the next record on is lent to its writer. The count stays at its largest number, which a call never reaches.
     pub fn emit(&mut self, e: KernelEvent)
         ensures { log_of self.new ≡ append_event (log_of self.old) e }

@@ -10,7 +10,7 @@ use borrow.Author.Tests.{leb-true}
 use Rattle.numbers.specs.Choice.{pick}
 use Rattle.numbers.specs.Words.{fitting}
 use Rattle.lists.specs.Lists.{total}
-use Rattle.lists.proofs.Cases.{pick_case}
+use Rattle.lists.proofs.Cases.{pick_case, some_case}
 use Rattle.book.specs.Entries.{is_terminal}
 use Rattle.book.specs.declared.Side.TheVariants.{Buy, Sell}
 use Rattle.book.specs.declared.VenueMsg.{VenueMsg}
@@ -22,7 +22,6 @@ use Rattle.rules.specs.Run.{Outcome, Run, ran, left, halt, ended, ran_to, iter}
 use Rattle.rules.specs.Phases.{phase_turn, phases}
 use Rattle.rules.specs.Calls.{Did, refused, stays, halts, ends, Answer, refuse, answer_on, answer, counts_fit, advance, is_paused, can_resume, passed, pass}
 use Rattle.rules.specs.Conservation.{recorded_on, undelivered, Each, Conserved, Closed, Call, advances, passes, answer_to, result, AfterEach, After, Claim}
-use Rattle.rules.proofs.Cases.{word_case}
 use Rattle.rules.proofs.Positions.{balanced-same, balanced-apart, balanced-joined}
 use Rattle.rules.proofs.Kept.{KeptAt}
 use Rattle.rules.proofs.Held.{when, over, Inv, AtEnd, Good}
@@ -116,7 +115,7 @@ pass_well s h =
     pick_case Well (counts_fit s) _ _
     (λ _. pick_case Well (is_paused s.control.phase) _ _
     (λ _. pick_case Well (can_resume s.control.resume) _ _
-    (λ _. word_case Well (fitting (s.control.step + 1)) _ _ (λ n _. passed_well n s h) (λ _. refuse_well _ s h))
+    (λ _. some_case Well (fitting (s.control.step + 1)) _ _ (λ n _. passed_well n s h) (λ _. refuse_well _ s h))
     (λ _. refuse_well _ s h))
     (λ _. refuse_well _ s h))
     (λ _. refuse_well _ s h)

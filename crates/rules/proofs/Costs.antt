@@ -25,7 +25,7 @@ use Rattle.rules.specs.Run.{ran_to, raised, and_then}
 use Rattle.rules.specs.Report.{stamp, delayed, push_delivery, reported, queue_delivery, report_on}
 use Rattle.rules.specs.Messages.{release, await, await_marked, book, schedule, remove_expiry, schedule_expiry, accept, reject, activate, activation, cancel_booked, on_activation, cancel_activation, cancel_awaiting, cancel, expire_booked, expire, acts, apply_next_msg}
 use Rattle.rules.specs.Delivery.{count_fill, move_agent, count_reject, deliver_next}
-use Rattle.rules.proofs.Bounded.{Within, ran_in, raised_in, halt_in, pick_in, some_in, word_in, moved_in, taking_in, putting_in, then_in, map_in}
+use Rattle.rules.proofs.Bounded.{Within, ran_in, raised_in, halt_in, pick_in, some_in, moved_in, taking_in, putting_in, then_in, map_in}
 use Rattle.book.specs.declared.FillRec.{FillRec}
 use Rattle.msgs.specs.Rows.{Msgs}
 use Rattle.lists.specs.declared.Arr.{Arr}
@@ -76,7 +76,7 @@ module _ {f : MsgKind → ℕ} {k : Control} {h o w : ℕ} where
 
   pub stamp_in : {e d j n : ℕ} (s : KernelState) → Stands f k h o w e d j n s → Within (Stops f k w) n (Stands f k h o w e d j) (stamp s)
   unfolding stamp
-  stamp_in s g = word_in _ (λ q. ran_in g) (halt_in (stops g))
+  stamp_in s g = some_in _ (λ q. ran_in g) (halt_in (stops g))
 
   push_in : {e d j n : ℕ} (x : Delivery) (s : KernelState) → Stands f k h o w e d j n s → Within (Stops f k w) n (Stands f k h o w e (d + 1) j) (push_delivery x s)
   unfolding push_delivery
@@ -85,7 +85,7 @@ module _ {f : MsgKind → ℕ} {k : Control} {h o w : ℕ} where
 
   pub report_in : {e d n : ℕ} (j : ℕ) (c : Config) (r : ReportRec) (y : Option FillRec) (s : KernelState) → Stands f k h o w e d (j + 1) n s → Within (Stops f k w) n (Stands f k h o w e (d + 1) j) (queue_delivery c r y s)
   unfolding queue_delivery reported delayed
-  report_in j c r y s g = then_in (word_in _ (λ at. raise_in j _ _ g) (halt_in (stops g))) (λ m t g. push_in _ t g)
+  report_in j c r y s g = then_in (some_in _ (λ at. raise_in j _ _ g) (halt_in (stops g))) (λ m t g. push_in _ t g)
 
   -- ---- the lists of orders and messages
   release_in : {e d j n : ℕ} (x : VenueOrder) (s : KernelState) → Stands f k h o w e d j n s → Within (Stops f k w) n (Stands f k h o w e d j) (release x s)
@@ -103,8 +103,8 @@ module _ {f : MsgKind → ℕ} {k : Control} {h o w : ℕ} where
 
   expiry_in : {d j n : ℕ} (e : ℕ) (at : Option ℕ) (id : ℕ) (s : KernelState) → Stands f k h o w (e + (2 + f (Expire id))) d j n s → Within (Stops f k w) n (Stands f k h o w e d j) (schedule_expiry at id s)
   unfolding schedule_expiry schedule
-  expiry_in {d} {j} e at id s g = word_in at
-      (λ _. word_in _
+  expiry_in {d} {j} e at id s g = some_in at
+      (λ _. some_in _
       (λ q. putting_in _ _ _ (λ l a. record { at = g.at; room = g.room; few = g.few; seen = g.seen; light = omega (arith, g.light, a.one_more, a.sums (more f)); held = g.held; spare = g.spare }) (stops g))
       (halt_in (stops g)))
       (ran_in (less e d j (omega arith) g))
@@ -116,11 +116,11 @@ module _ {f : MsgKind → ℕ} {k : Control} {h o w : ℕ} where
   move_in : {e d j n : ℕ} (y : Option FillRec) (s : KernelState) → Stands f k h o w e d j n s → Within (Stops f k w) n (Stands f k h o w e d j) (move_agent y s)
   unfolding count_fill
   move_in None s g = ran_in g
-  move_in (Some r) s g = moved_in _ (λ q. word_in _ (λ _. ran_in g) (halt_in (stops g))) (halt_in (stops g))
+  move_in (Some r) s g = moved_in _ (λ q. some_in _ (λ _. ran_in g) (halt_in (stops g))) (halt_in (stops g))
 
   count_in : {e d j n : ℕ} (r : ReportRec) (s : KernelState) → Stands f k h o w e d j n s → Within (Stops f k w) n (Stands f k h o w e d j) (count_reject r s)
   unfolding count_reject
-  count_in r s g = pick_in _ (pick_in _ (word_in _ (λ _. ran_in g) (halt_in (stops g))) (ran_in g)) (ran_in g)
+  count_in r s g = pick_in _ (pick_in _ (some_in _ (λ _. ran_in g) (halt_in (stops g))) (ran_in g)) (ran_in g)
 
   -- the first delivery leaves, with its event
   pub deliver_in : {P : ℕ → KernelState → Type 0} {e d n : ℕ} (j : ℕ) (s : KernelState) → (0 < s.deliveries.count → Stands f k h o w e (d + 1) (j + 1) n s)
@@ -183,7 +183,7 @@ module _ {f : MsgKind → ℕ} {k : Control} {h o w : ℕ} (blank : f (Cancel 0)
 
   activation_in : {d n : ℕ} (e j : ℕ) (c : Config) (x : VenueOrder) (life : ℕ) (s t : KernelState) → Stops f k w s → Stands f k h o w (e + (2 + f (Expire x.id))) d (j + 1) n t → Within (Stops f k w) n (Stands f k h o w e (d + 1) j) (activation c x life s t)
   unfolding activation
-  activation_in e j c x life s t z g = pick_in _ (word_in _ (λ at. pick_in _ (activate_in e j c x _ t g) (halt_in z)) (halt_in z)) (activate_in e j c x _ t g)
+  activation_in e j c x life s t z g = pick_in _ (some_in _ (λ at. pick_in _ (activate_in e j c x _ t g) (halt_in z)) (halt_in z)) (activate_in e j c x _ t g)
 
   cancel_booked_in : {e d n : ℕ} (j : ℕ) (c : Config) (s : KernelState) (i : ℕ) (t : KernelState) → Stands f k h o w e d (j + 1) n t → Within (Stops f k w) n (Stands f k h o w e (d + 1) j) (cancel_booked c s i t)
   unfolding cancel_booked

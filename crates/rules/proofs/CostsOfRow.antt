@@ -7,7 +7,7 @@ use lib.Dec.{ltb, leb}
 use lib.ListN.{length, length-append, length-map}
 use borrow.Author.Tests.{ltb-true}
 use Rattle.lists.specs.Lists.{live, emptied, total}
-use Rattle.lists.proofs.Cases.{pick_case}
+use Rattle.lists.proofs.Cases.{pick_case, some_case}
 use Rattle.state.specs.With.{with_orders, control_phase}
 use Rattle.book.specs.declared.VenueMsg.{VenueMsg}
 use Rattle.book.specs.declared.VenueOrder.{VenueOrder}
@@ -25,8 +25,7 @@ use Rattle.rules.specs.Events.{truncated}
 use Rattle.rules.specs.FewEvents.{raisable_kind, msgs_events}
 use Rattle.rules.specs.Phases.{queue_observation, match_phase, before_match, settle_row, settle, to_row, next_row, obs_queued}
 use Rattle.rules.proofs.Fewer.{stored-few, live-few}
-use Rattle.rules.proofs.Cases.{word_case}
-use Rattle.rules.proofs.Bounded.{Within, ran_in, halted_in, halt_in, ended_in, pick_in, some_in, word_in, taking_in, putting_in, ran_out, map_in, then_in}
+use Rattle.rules.proofs.Bounded.{Within, ran_in, halted_in, halt_in, ended_in, pick_in, some_in, taking_in, putting_in, ran_out, map_in, then_in}
 use Rattle.rules.proofs.Costs.{Stands, Stops, less, stops, raise_in, stamp_in, report_in, await_in, removed_in, fewer_in}
 use Rattle.rules.proofs.Paid.{Paid, stops_on, opened, closed, pays_less, raise_paid, deliver_paid, walk_in, own}
 use Rattle.lists.specs.declared.Arr.{Arr}
@@ -36,7 +35,7 @@ module _ {k : Control} {h o w : ℕ} where
   event_in : {e d n : ℕ} (j : ℕ) (x : VenueOrder) (q : ℕ) (s : KernelState) → Stands raisable_kind k h o w e d (j + 1) n s → Within (Stops raisable_kind k w) n (Stands raisable_kind k h o w e d j) (fill_event x q s)
   unfolding fill_event fill_counted
   event_in j x q s g = then_in (stamp_in s g)
-      (λ m t g. some_in _ (λ y. pick_in _ (word_in _ (λ _. word_in _ (λ _. raise_in j _ _ g) (halt_in (stops g))) (halt_in (stops g))) (halt_in (stops g))) (halt_in (stops g)))
+      (λ m t g. some_in _ (λ y. pick_in _ (some_in _ (λ _. some_in _ (λ _. raise_in j _ _ g) (halt_in (stops g))) (halt_in (stops g))) (halt_in (stops g))) (halt_in (stops g)))
 
   fill_in : {e d n : ℕ} (j : ℕ) (c : Config) (i : ℕ) (x : VenueOrder) (q : ℕ) (s : KernelState) → Stands raisable_kind k h o w e d (j + 1 + 1) n s → Within (Stops raisable_kind k w) n (Stands raisable_kind k h o w e (d + 1) j) (fill_at c i x q s)
   unfolding fill_at
@@ -67,7 +66,7 @@ module _ {k : Control} {h o w : ℕ} where
 
   row_in : {e n : ℕ} (d j : ℕ) (c : Config) (row : KernelTick) (s : KernelState) → Stands raisable_kind k h o w e d (2 * h + j) n s → Within (Stops raisable_kind k w) n (Stands raisable_kind k h o w e (d + h) j) (match_row c row s)
   unfolding match_row sweep
-  row_in {e} d j c row s g = word_in _
+  row_in {e} d j c row s g = some_in _
       (λ _. then_in (match_in d j c row s.orders.count 0 _ (less e d (2 * s.orders.count + j) (omega (arith, g.few)) g))
       (λ m t y. map_in (λ u z. z) (λ m u z. less e (d + h) j (omega (arith, g.few)) z) (sweep_in _ 0 t y)))
       (halt_in (stops g))
@@ -77,7 +76,7 @@ module _ {k : Control} {h o w : ℕ} where
   observe_in : {e d j n : ℕ} (c : Config) (i : ℕ) (row : KernelTick) (s : KernelState) → Stands raisable_kind k h o w e d j n s
       → Within (Stops raisable_kind k w) n (λ m t. Stands raisable_kind (control_phase k ObsQueued) h (o + 1) w e d j m t × (o + 1 ≤ 16)) (queue_observation c i row s)
   unfolding queue_observation delayed
-  observe_in c i row s g = word_in _
+  observe_in c i row s g = some_in _
       (λ at. putting_in _ _ _
       (λ l a. (record { at = ap (λ (y : Control). control_phase y ObsQueued) g.at; room = g.room; few = g.few; seen = omega (arith, g.seen, a.one_more); light = g.light; held = g.held; spare = g.spare }, omega (arith, g.seen, a.one_more, a.room)))
       (stops g))
@@ -100,13 +99,13 @@ module _ {k : Control} {h o w : ℕ} where
 
   pub before_in : (j : ℕ) {n : ℕ} (c : Config) (rows : List ℕ) (s : KernelState) → 2 * h ≤ j → Paid k h o w j n s → Within (Stops raisable_kind k w) n (Matched k h o w j) (before_match c rows s)
   unfolding before_match match_phase
-  before_in j c rows s b g = word_in _
+  before_in j c rows s b g = some_in _
       (λ i. some_in _ (λ row. then_in (walk_in j c _ s (omega (arith, g.room)) g) (λ m t y. row_turn_in j c i row _ b y)) (halt_in (stops g))) (halt_in (stops g))
 
   -- a row's end raises one
   pub settle_in : (j : ℕ) {n : ℕ} (c : Config) (rows : List ℕ) (s : KernelState) → Paid k h o w (j + 1) n s → Within (Stops raisable_kind k w) n (Paid k h o w j) (settle c rows s)
   unfolding settle settle_row
-  settle_in j c rows s g = word_in _
+  settle_in j c rows s g = some_in _
       (λ i. some_in _
       (λ row. then_in (walk_in (j + 1) c _ s (omega arith) g)
       (λ m t y. pick_in _ (raise_paid j _ t y) (halt_in (stops y))))
@@ -129,8 +128,8 @@ module _ {P : ℕ → KernelState → Type 0} where
   -- the data ended, or one of its two counters did not fit: nothing runs on
   close_in : {k : Control} {h o w : ℕ} (j : ℕ) {n : ℕ} (s : KernelState) → 1 ≤ j → Paid k h o w j n s → Within (Stops raisable_kind k w) n P (close_data s)
   unfolding close_data
-  close_in {k} {h} {o} {w} j {n} s b g = word_case (λ r. Within (Stops raisable_kind k w) n P (after es r)) _ _ _
-      (λ m _. word_case (λ r. Within (Stops raisable_kind k w) n P (after es r)) _ _ _
+  close_in {k} {h} {o} {w} j {n} s b g = some_case (λ r. Within (Stops raisable_kind k w) n P (after es r)) _ _ _
+      (λ m _. some_case (λ r. Within (Stops raisable_kind k w) n P (after es r)) _ _ _
       (λ q _. ended_in (rw length-append (omega (arith, few))) (record { cursor = z.cursor; row = z.row; light = z.light }))
       (λ _. halted_in (rw length-append (omega (arith, few))) (record { cursor = z.cursor; row = z.row; light = z.light })))
       (λ _. halted_in (rw length-append (omega (arith, few))) z)

@@ -5,7 +5,7 @@ use mathlib.Core.List.{List, [], ◌∷◌}
 use mathlib.Core.Path.{◌≡◌, refl, ap}
 use native.Mathlib.Omega.{arith}
 use lib.Dec.{leb, eqb}
-use lib.ListN.{length, length-append, length-take}
+use lib.ListN.{length, length-take}
 use borrow.Author.Tests.{leb-true}
 use Rattle.lists.specs.Lists.{below, total}
 use Rattle.lists.proofs.Cases.{pick_case}
@@ -13,15 +13,13 @@ use Rattle.book.specs.declared.MsgKind.{MsgKind}
 use Rattle.book.specs.declared.MsgKind.TheVariants.{Cancel, Activate, Expire}
 use Rattle.book.specs.declared.VenueMsg.{VenueMsg}
 use Rattle.book.specs.declared.config.Config.{Config}
-use Rattle.state.specs.declared.KernelEvent.TheVariants.{Halted}
 use Rattle.state.specs.declared.KernelState.{KernelState}
 use Rattle.state.specs.declared.Phase.{Phase}
 use Rattle.state.specs.declared.Phase.TheVariants.{BeforeMatch, ObsQueued, AwaitDecision, Terminal}
-use Rattle.rules.specs.Run.{Outcome, Run, ran, left, halt, ended}
 use Rattle.rules.specs.Events.{extra_kind, extra}
 use Rattle.rules.specs.Phases.{on_phase, phase_turn, turns, phases}
-use Rattle.rules.specs.Calls.{Answer, answer_on, answer, counts_fit, advance}
-use Rattle.rules.proofs.Cases.{both}
+use Rattle.rules.specs.Calls.{Answer, answer, counts_fit, advance}
+use Rattle.rules.proofs.Cases.{both, answer-few}
 use Rattle.rules.proofs.Loop.{run_of}
 use Rattle.rules.proofs.Within.{Within, ran_in, map_in, iter_in}
 use Rattle.rules.proofs.Falls.{Kept, less}
@@ -94,20 +92,11 @@ fit_affords rows s e =
     few_cost AwaitDecision = omega arith
     few_cost Terminal = omega arith
 
--- a halt adds its event
-answer-few : {P : ℕ → KernelState → Type 0} {n : ℕ} (r : Run) → Within n P r → length (answer r).events ≤ n + 1
-unfolding answer
-answer-few {n = n} r g = go r.outcome
-  where
-    go : (o : Outcome) → length (answer_on o r.state r.events).events ≤ n + 1
-    go ran = omega (arith, g.few)
-    go left = omega (arith, g.few)
-    go (halt h) = omega (arith, g.few, length-append r.events (Halted h ∷ []))
-    go (ended ms) = omega (arith, g.few)
-
 pub phases-few : (c : Config) (rows : List ℕ) (s : KernelState) → counts_fit s ≡ true → length (answer (phases c rows s)).events ≤ 357 + 44 * (length rows / 5) + 1
 unfolding phases
-phases-few c rows s e = answer-few _ (iter_in (phase_turn c rows) (turn-affords rows c) (suc (turns rows s)) (357 + 44 * (length rows / 5)) s (fit_affords rows s e))
+phases-few c rows s e =
+    let g = iter_in (phase_turn c rows) (turn-affords rows c) (suc (turns rows s)) (357 + 44 * (length rows / 5)) s (fit_affords rows s e) in
+    answer-few _ _ (omega (arith, g.few))
 
 -- a slice of words has fewer than 2^60 of them
 pub events-bound : (c : Config) (rows : List ℕ) (s : KernelState) → length rows < 2 ^ 60 → length (advance c rows s).events < 2 ^ 64 - 1

@@ -6,7 +6,7 @@ use mathlib.Core.Path.{◌≡◌, refl}
 use native.Mathlib.Omega.{arith}
 use lib.Dec.{leb}
 use Rattle.lists.specs.Lists.{below, total}
-use Rattle.lists.proofs.Cases.{pick_case, some_case}
+use Rattle.lists.proofs.Cases.{pick_case, some_case, different}
 use Rattle.lists.proofs.Sums.{Took, take_case, entry_case}
 use Rattle.book.specs.Entries.{blank_order, blank_msg, blank_delivery, blank_obs}
 use Rattle.state.specs.With.{with_orders, with_msgs}
@@ -27,7 +27,7 @@ use Rattle.rules.specs.Messages.{release, await, await_marked, book, schedule, r
 use Rattle.rules.specs.Delivery.{count_fill, move_agent, count_reject, deliver_next}
 use Rattle.rules.specs.Events.{pop_observation, Class, venue, delivery, observation, Next, nothing, next, due_by, next_msg, next_delivery, next_observation, sooner, next_of, clock_to, handle, turn_on, event_turn, extra_kind, extra, weight, run_events}
 use Rattle.rules.proofs.Loop.{run_of, run-again, run-last}
-use Rattle.rules.proofs.Within.{Within, ran_in, raised_in, halt_in, left_in, pick_in, some_in, word_in, moved_in, taking_in, putting_in, ran_out, then_in, map_in, iter_in}
+use Rattle.rules.proofs.Within.{Within, ran_in, raised_in, halt_in, left_in, pick_in, some_in, moved_in, taking_in, putting_in, ran_out, then_in, map_in, iter_in}
 use Rattle.book.specs.declared.FillRec.{FillRec}
 use Rattle.msgs.specs.Rows.{Msgs}
 use Rattle.lists.specs.declared.Arr.{Arr}
@@ -63,7 +63,7 @@ module _ {x : ℕ} {p : Phase} {h : ℕ} where
 
   pub stamp_in : (j : ℕ) {n : ℕ} (s : KernelState) → Kept x p h j n s → Within n (Kept x p h j) (stamp s)
   unfolding stamp
-  stamp_in j s k = word_in _ (λ q. ran_in k) halt_in
+  stamp_in j s k = some_in _ (λ q. ran_in k) halt_in
 
   push_in : (j : ℕ) {n : ℕ} (d : Delivery) (s : KernelState) → Kept x p h (j + 3) n s → Within n (Kept x p h j) (push_delivery d s)
   unfolding push_delivery
@@ -71,7 +71,7 @@ module _ {x : ℕ} {p : Phase} {h : ℕ} where
 
   pub report_in : (j : ℕ) {n : ℕ} (c : Config) (r : ReportRec) (f : Option FillRec) (s : KernelState) → Kept x p h (j + 3 + 1) n s → Within n (Kept x p h j) (queue_delivery c r f s)
   unfolding queue_delivery reported delayed
-  report_in j c r f s k = then_in (word_in _ (λ at. raise_in (j + 3) _ _ k) halt_in) (λ m t g. push_in j _ t g)
+  report_in j c r f s k = then_in (some_in _ (λ at. raise_in (j + 3) _ _ k) halt_in) (λ m t g. push_in j _ t g)
 
   -- ---- the lists of orders and messages
   release_in : (j : ℕ) {n : ℕ} (o : VenueOrder) (s : KernelState) → Kept x p h j n s → Within n (Kept x p h j) (release o s)
@@ -88,8 +88,8 @@ module _ {x : ℕ} {p : Phase} {h : ℕ} where
 
   expiry_in : (j : ℕ) {n : ℕ} (w : Option ℕ) (id : ℕ) (s : KernelState) → Kept x p h (j + 6) n s → Within n (Kept x p h j) (schedule_expiry w id s)
   unfolding schedule_expiry schedule
-  expiry_in j w id s k = word_in w
-      (λ at. word_in _ (λ q. putting_in _ _ _ (λ l a. pays (omega (arith, k.paid, a.one_more, a.sums extra)) k)) halt_in)
+  expiry_in j w id s k = some_in w
+      (λ at. some_in _ (λ q. putting_in _ _ _ (λ l a. pays (omega (arith, k.paid, a.one_more, a.sums extra)) k)) halt_in)
       (ran_in (less j (omega arith) k))
 
   -- a message came out: it weighs 2, and what more its kind weighs
@@ -121,7 +121,7 @@ module _ {x : ℕ} {p : Phase} {h : ℕ} where
 
   activation_in : (j : ℕ) {n : ℕ} (c : Config) (o : VenueOrder) (life : ℕ) (s t : KernelState) → Kept x p h (j + 6 + 3 + 1) n t → Within n (Kept x p h j) (activation c o life s t)
   unfolding activation
-  activation_in j c o life s t k = pick_in _ (word_in _ (λ at. pick_in _ (activate_in j c o _ t k) halt_in) halt_in) (activate_in j c o _ t k)
+  activation_in j c o life s t k = pick_in _ (some_in _ (λ at. pick_in _ (activate_in j c o _ t k) halt_in) halt_in) (activate_in j c o _ t k)
 
   cancel_booked_in : (j : ℕ) {n : ℕ} (c : Config) (s : KernelState) (i : ℕ) (t : KernelState) → Kept x p h (j + 3 + 1) n t → Within n (Kept x p h j) (cancel_booked c s i t)
   unfolding cancel_booked
@@ -172,11 +172,11 @@ module _ {x : ℕ} {p : Phase} {h : ℕ} where
   move_in : (j : ℕ) {n : ℕ} (f : Option FillRec) (s : KernelState) → Kept x p h j n s → Within n (Kept x p h j) (move_agent f s)
   unfolding count_fill
   move_in j None s k = ran_in k
-  move_in j (Some r) s k = moved_in _ (λ q. word_in _ (λ _. ran_in k) halt_in) halt_in
+  move_in j (Some r) s k = moved_in _ (λ q. some_in _ (λ _. ran_in k) halt_in) halt_in
 
   count_in : (j : ℕ) {n : ℕ} (r : ReportRec) (s : KernelState) → Kept x p h j n s → Within n (Kept x p h j) (count_reject r s)
   unfolding count_reject
-  count_in j r s k = pick_in _ (pick_in _ (word_in _ (λ _. ran_in k) halt_in) (ran_in k)) (ran_in k)
+  count_in j r s k = pick_in _ (pick_in _ (some_in _ (λ _. ran_in k) halt_in) (ran_in k)) (ran_in k)
 
   -- 3 for the delivery that came out, 1 of them for its event; where none came out, nothing
   pub deliver_in : (i j : ℕ) {n : ℕ} (s : KernelState) → i ≤ j + 2 → ((s.deliveries.count ≤ 24 → s.deliveries.count ≤ 0) → i ≤ j) → Kept x p h j n s → Within n (Kept x p h i) (deliver_next s)
@@ -251,7 +251,7 @@ unfolding event_turn weight
 event_falls c limit s r = go (next_of limit s) (next-ok limit s)
   where
     go : (y : Next) → NextDue s y → turn_on c y s ≡ again r → r.outcome ≡ ran → weight r.state < weight s
-    go nothing d e q = let z : ◌≡◌ {A = ℕ} 0 1 = cc in absurd (omega arith)
+    go nothing d e q = different cc
     go (next k t) d e q =
         let f : handle c k (clock_to t s) ≡ r = cc in
         let g = rw f at (next_in 0 c k t s d (own 0 s)) in

@@ -7,7 +7,7 @@ use lib.Dec.{ltb, leb}
 use lib.ListN.{length, length-append, length-map, length-take}
 use borrow.Author.Tests.{ltb-true}
 use Rattle.lists.specs.Lists.{Put, live, below, store_at}
-use Rattle.lists.proofs.Cases.{pick_case}
+use Rattle.lists.proofs.Cases.{pick_case, different, some_case}
 use Rattle.lists.proofs.Sums.{store_case}
 use Rattle.state.specs.With.{with_orders}
 use Rattle.book.specs.declared.VenueOrder.{VenueOrder}
@@ -23,8 +23,7 @@ use Rattle.rules.specs.Matching.{filled_by, fill_counted, fill_event, fill_at, F
 use Rattle.rules.specs.Delivery.{deliver_all, dropped_event, close_data, end_of_data}
 use Rattle.rules.specs.Phases.{queue_observation, match_phase, before_match, settle_row, settle, next_row, obs_queued, on_phase, phase_turn, turns_in, turns, phases}
 use Rattle.rules.proofs.Loop.{run-again, run-last}
-use Rattle.rules.proofs.Cases.{word_case}
-use Rattle.rules.proofs.Within.{Within, ran_in, halted_in, halt_in, ended_in, pick_in, some_in, word_in, taking_in, putting_in, ran_out, then_in}
+use Rattle.rules.proofs.Within.{Within, ran_in, halted_in, halt_in, ended_in, pick_in, some_in, taking_in, putting_in, ran_out, then_in}
 use Rattle.rules.proofs.Falls.{Kept, less, raise_in, stamp_in, report_in, await_in, removed_in, fewer_in, deliver_in, walk_in, own}
 use Rattle.lists.specs.declared.Arr.{Arr}
 
@@ -35,7 +34,7 @@ module _ {x : ℕ} {p : Phase} {h : ℕ} where
   -- ---- a row over the orders: a fill costs 5, its event and its report
   event_in : (j : ℕ) {n : ℕ} (o : VenueOrder) (q : ℕ) (s : KernelState) → Kept x p h (j + 1) n s → Within n (Kept x p h j) (fill_event o q s)
   unfolding fill_event fill_counted
-  event_in j o q s k = then_in (stamp_in (j + 1) s k) (λ m t g. some_in _ (λ y. pick_in _ (word_in _ (λ e. word_in _ (λ w. raise_in j _ _ g) halt_in) halt_in) halt_in) halt_in)
+  event_in j o q s k = then_in (stamp_in (j + 1) s k) (λ m t g. some_in _ (λ y. pick_in _ (some_in _ (λ e. some_in _ (λ w. raise_in j _ _ g) halt_in) halt_in) halt_in) halt_in)
 
   fill_in : (j : ℕ) {n : ℕ} (c : Config) (i : ℕ) (o : VenueOrder) (q : ℕ) (s : KernelState) → Kept x p h (j + 3 + 1 + 1) n s → Within n (Kept x p h j) (fill_at c i o q s)
   unfolding fill_at
@@ -63,23 +62,23 @@ module _ {x : ℕ} {p : Phase} {h : ℕ} where
 
   row_in : (j : ℕ) {n : ℕ} (c : Config) (row : KernelTick) (s : KernelState) → Kept x p h (5 * h + j) n s → Within n (Kept x p h j) (match_row c row s)
   unfolding match_row sweep
-  row_in j c row s k = word_in _ (λ w. then_in (match_in j c row s.orders.count 0 _ (less (5 * s.orders.count + j) (omega (arith, k.few)) k)) (λ m t g. sweep_in j _ 0 t g)) halt_in
+  row_in j c row s k = some_in _ (λ w. then_in (match_in j c row s.orders.count 0 _ (less (5 * s.orders.count + j) (omega (arith, k.few)) k)) (λ m t g. sweep_in j _ 0 t g)) halt_in
 
   -- ---- the phases
   observe_in : (j : ℕ) {n : ℕ} (c : Config) (i : ℕ) (row : KernelTick) (s : KernelState) → Kept x p h (j + 3) n s → Within n (Kept x ObsQueued h j) (queue_observation c i row s)
   unfolding queue_observation delayed
-  observe_in j c i row s k = word_in _
+  observe_in j c i row s k = some_in _
       (λ at. putting_in _ _ _ (λ l a. record { at = k.at; on = refl; room = k.room; few = k.few; paid = omega (arith, k.paid, a.one_more) })) halt_in
 
   -- the events up to the row's time are paid for; the row costs 5 for each order, and 3 for the observation
   pub before_in : (j : ℕ) {n : ℕ} (c : Config) (rows : List ℕ) (s : KernelState) → Kept x p h (5 * h + (j + 3)) n s → Within n (Kept x ObsQueued h j) (before_match c rows s)
   unfolding before_match match_phase
-  before_in j c rows s k = word_in _
+  before_in j c rows s k = some_in _
       (λ i. some_in _ (λ row. then_in (walk_in (5 * h + (j + 3)) c _ s k) (λ m t g. then_in (row_in (j + 3) c row _ g) (λ m u g. observe_in j c i row u g))) halt_in) halt_in
 
   settle_in : (j : ℕ) {n : ℕ} (c : Config) (rows : List ℕ) (s : KernelState) → Kept x p h (j + 1) n s → Within n (Kept x p h j) (settle c rows s)
   unfolding settle settle_row
-  settle_in j c rows s k = word_in _
+  settle_in j c rows s k = some_in _
       (λ i. some_in _ (λ row. then_in (walk_in (j + 1) c _ s k) (λ m t g. pick_in _ (raise_in j _ t g) halt_in)) halt_in) (ran_in (less j (omega arith) k))
 
   -- ---- end of data
@@ -96,8 +95,8 @@ module _ {P : ℕ → KernelState → Type 0} where
   -- the data ended, or one of its two counters did not fit: nothing runs on
   close_in : {x : ℕ} {p : Phase} {h n : ℕ} (s : KernelState) → Kept x p h 1 n s → Within n P (close_data s)
   unfolding close_data
-  close_in {n = n} s k = word_case (λ r. Within n P (after es r)) _ _ _
-      (λ m _. word_case (λ r. Within n P (after es r)) _ _ _ (λ q _. ended_in (rw length-append (omega (arith, few)))) (λ _. halted_in (rw length-append (omega (arith, few)))))
+  close_in {n = n} s k = some_case (λ r. Within n P (after es r)) _ _ _
+      (λ m _. some_case (λ r. Within n P (after es r)) _ _ _ (λ q _. ended_in (rw length-append (omega (arith, few)))) (λ _. halted_in (rw length-append (omega (arith, few)))))
       (λ _. halted_in (rw length-append (omega (arith, few))))
     where
       es : List KernelEvent
@@ -147,8 +146,8 @@ phase_falls c rows s r = go s.control.phase refl
         let k = ran_out (rw f at (before_in 0 c rows s (own (5 * h + (0 + 3)) s))) q in
         omega (arith, k.at, ap turns_in k.on, ap turns_in e)
     go ObsQueued e z q = let f : obs_queued c rows s ≡ r = cc in later e (ran_out (rw f at (queued_in 0 c rows s (own (0 + 1 + 1) s))) q)
-    go AwaitDecision e z q = let y : ◌≡◌ {A = ℕ} 0 1 = cc in absurd (omega arith)
-    go Terminal e z q = let y : ◌≡◌ {A = ℕ} 0 1 = cc in absurd (omega arith)
+    go AwaitDecision e z q = different cc
+    go Terminal e z q = different cc
 
 -- the phases from here are this turn, and the phases from there
 pub phases-again : (c : Config) (rows : List ℕ) (s : KernelState) (r : Run) → phase_turn c rows s ≡ again r → phases c rows s ≡ and_then r (phases c rows)

@@ -15,7 +15,6 @@ use Rattle.state.specs.declared.KernelState.{KernelState}
 use Rattle.rules.specs.Run.{Run, halt, and_then}
 use Rattle.rules.specs.Report.{stamp, delayed_time}
 use Rattle.rules.specs.Matching.{gate_filled, fill_event, fill_at}
-use Rattle.rules.proofs.Cases.{word_case}
 
 -- "delay: sum .. past 64 bits": also where the quantum is 0 and the product would fit
 pub sum_past : (from base jitter quantum : ℕ) → fits (base + jitter) ≡ false → delayed_time from base jitter quantum ≡ None
@@ -29,7 +28,7 @@ Halts P r = (h : HaltReason) × (r.outcome ≡ halt h) × P r.state
 -- so does what halts at its stamp or behind it
 stamp-halts : (P : KernelState → Type 0) (s : KernelState) (k : KernelState → Run) → P s → ((n : ℕ) → Halts P (k (with_seqs s (seqs_stamp_seq s.seqs n)))) → Halts P (and_then (stamp s) k)
 unfolding stamp and_then
-stamp-halts P s k g h = word_case (λ (r : Run). Halts P (and_then r k)) (fitting (s.seqs.stamp_seq + 1)) _ _ (λ n _. h n) (λ _. (CounterOverflow, refl, g))
+stamp-halts P s k g h = some_case (λ (r : Run). Halts P (and_then r k)) (fitting (s.seqs.stamp_seq + 1)) _ _ (λ n _. h n) (λ _. (CounterOverflow, refl, g))
 
 -- and nothing comes behind a halt
 halt-leaves : (P : KernelState → Type 0) (r : Run) (k : KernelState → Run) → Halts P r → P (and_then r k).state

@@ -18,7 +18,7 @@ use Rattle.rules.specs.Delivery.{count_fill, move_agent, count_reject, deliver_n
 use Rattle.rules.specs.Conservation.{carried_on, recorded_by, recorded_on, Closed}
 use Rattle.rules.proofs.Cases.{moved_case}
 use Rattle.rules.proofs.Positions.{balanced-same, balanced_agent, balanced_equal}
-use Rattle.rules.proofs.Kept.{ran-kept, halt-kept, ended-kept, after_kept, pick-kept, word_kept, taking-kept, raised_then, then_kept}
+use Rattle.rules.proofs.Kept.{ran-kept, halt-kept, ended-kept, after_kept, pick-kept, some-kept, taking-kept, raised_then, then_kept}
 use Rattle.rules.proofs.Held.{over, nil, Held, Inv, Good}
 use Rattle.book.specs.declared.FillRec.{FillRec}
 use Rattle.lists.specs.declared.Arr.{Arr}
@@ -45,7 +45,7 @@ unfolding count_fill
 move_good n None s h w = ran-kept (h, w)
 move_good n (Some f) s h w =
     moved_case (Good (Left n)) _ _ _ _ _
-    (word_kept _
+    (some-kept _
     (λ k. ran-kept (
       (record {
         lots = h.lots;
@@ -62,7 +62,7 @@ move_good n (Some f) s h w =
 
 count-good : (n : ℕ) (r : ReportRec) (s : KernelState) → Left n s → Good (Left n) (count_reject r s)
 unfolding count_reject
-count-good n r s h = pick-kept _ (pick-kept _ (word_kept _ (λ k. ran-kept h) halt-kept) (ran-kept h)) (ran-kept h)
+count-good n r s h = pick-kept _ (pick-kept _ (some-kept _ (λ k. ran-kept h) halt-kept) (ran-kept h)) (ran-kept h)
 
 -- one delivery less
 pub deliver-good : (n : ℕ) (s : KernelState) → Inv s → s.deliveries.count ≤ suc n → Good (Left n) (deliver_next s)
@@ -100,7 +100,7 @@ close_good : (s : KernelState) → Left 0 s → Good Inv (close_data s)
 unfolding close_data
 close_good s g =
     let h = closed s g in
-    after_kept (map dropped_event (live 16 s.msgs)) (word_kept _ (λ m. word_kept _ (λ n. ended-kept (record { positions = h.positions; lots = h.lots }, refl)) halt-kept) halt-kept)
+    after_kept (map dropped_event (live 16 s.msgs)) (some-kept _ (λ m. some-kept _ (λ n. ended-kept (record { positions = h.positions; lots = h.lots }, refl)) halt-kept) halt-kept)
 
 pub end_good : (s : KernelState) → Inv s → Good Inv (end_of_data s)
 unfolding end_of_data

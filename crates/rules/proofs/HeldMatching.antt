@@ -27,7 +27,7 @@ use Rattle.rules.specs.Matching.{lots_of, queue_fill_lots, fill_lots, filled_by,
 use Rattle.rules.specs.Conservation.{of_side, lots_on}
 use Rattle.rules.proofs.Cases.{moved_by}
 use Rattle.rules.proofs.Positions.{balanced-same, balanced-venue}
-use Rattle.rules.proofs.Kept.{ran-kept, halt-kept, pick-kept, word_kept, taking-kept, raised-kept, ran_then, picks_kept, then_kept}
+use Rattle.rules.proofs.Kept.{ran-kept, halt-kept, pick-kept, some-kept, taking-kept, raised-kept, ran_then, picks_kept, then_kept}
 use Rattle.rules.proofs.Steps.{stamp_then, await-kept}
 use Rattle.rules.proofs.Held.{when, over, over_lots, nil, Held, Inv, Mid, Good, Gone, gate_with, no-lots, split_lots, filled_case}
 use Rattle.rules.proofs.HeldMessages.{report_good, took_order, removed_held}
@@ -114,7 +114,7 @@ Ready i o n t = Held over_lots nil (λ x. of_side x o.side n) (with_orders t ((s
 event_good : (i n : ℕ) (s : KernelState) → i < s.orders.count → 0 < n → n ≤ remaining (order_at i s) → Mid s → Good (Ready i (order_at i s) n) (fill_event (order_at i s) n s)
 unfolding fill_event fill_counted
 event_good i n s w z m h = stamp_then s _ (λ k. filled_case (Good (Ready i (order_at i s) n)) _ _ _ _ _
-    (λ buy sell q. pick-kept _ (word_kept _ (λ e. word_kept _ (λ f. raised-kept (filled-held i n (with_seqs s (seqs_stamp_seq s.seqs k)) w z m h buy sell q)) halt-kept) halt-kept) halt-kept)
+    (λ buy sell q. pick-kept _ (some-kept _ (λ e. some-kept _ (λ f. raised-kept (filled-held i n (with_seqs s (seqs_stamp_seq s.seqs k)) w z m h buy sell q)) halt-kept) halt-kept) halt-kept)
     halt-kept)
 
 fill_at_good : (c : Config) (i n : ℕ) (s : KernelState) → i < s.orders.count → 0 < n → n ≤ remaining (order_at i s) → Mid s → Good Mid (fill_at c i (order_at i s) n s)
@@ -233,4 +233,4 @@ gate_marked_held mid2 s h = pick_case (λ g. Mid (with_gate s g)) (eqb mid2 0) _
 
 pub match_row_good : (c : Config) (row : KernelTick) (s : KernelState) → Inv s → Good Inv (match_row c row s)
 unfolding match_row
-match_row_good c row s h = word_kept _ (λ mid2. then_kept (match_all c row _ 0 _ (gate_marked_held mid2 s (mid s h))) sweep-good) halt-kept
+match_row_good c row s h = some-kept _ (λ mid2. then_kept (match_all c row _ 0 _ (gate_marked_held mid2 s (mid s h))) sweep-good) halt-kept

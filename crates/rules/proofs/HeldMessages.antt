@@ -24,7 +24,7 @@ use Rattle.rules.specs.Report.{push_delivery, reported, queue_delivery}
 use Rattle.rules.specs.Messages.{release, book, schedule, remove_expiry, schedule_expiry, accept, reject, activate, activation, cancel_booked, on_activation, cancel_activation, cancel_awaiting, cancel, expire_booked, expire, acts, apply_next_msg}
 use Rattle.rules.specs.Conservation.{lots_on, carried_by, carried_on, recorded_by, recorded_on}
 use Rattle.rules.proofs.Positions.{balanced-same}
-use Rattle.rules.proofs.Kept.{ran-kept, halt-kept, pick-kept, some-kept, word_kept, taking-kept, putting-kept, raised-kept, raised_then, then_kept}
+use Rattle.rules.proofs.Kept.{ran-kept, halt-kept, pick-kept, some-kept, taking-kept, putting-kept, raised-kept, raised_then, then_kept}
 use Rattle.rules.proofs.Steps.{stamp_then, delayed-kept, await-kept}
 use Rattle.rules.proofs.Held.{over, nil, Held, Inv, Good, blank_lots, released_case}
 use Rattle.book.specs.declared.FillRec.{FillRec}
@@ -129,7 +129,7 @@ book-good o s z h = putting-kept _ _ s λ l a.
 
 expiry_good : (expiry : Option ℕ) (id : ℕ) (s : KernelState) → Inv s → Good Inv (schedule_expiry expiry id s)
 unfolding schedule_expiry schedule
-expiry_good expiry id s h = word_kept _ (λ at. word_kept _ (λ n. putting-kept _ _ _ (λ l a.
+expiry_good expiry id s h = some-kept _ (λ at. some-kept _ (λ n. putting-kept _ _ _ (λ l a.
     record { lots = λ x. omega (arith, a.sums (carried_on x), h.lots x); no_terminal = h.no_terminal; balanced = h.balanced; few_orders = h.few_orders; few_msgs = a.room; few_deliveries = h.few_deliveries }))
     halt-kept) (ran-kept h)
 
@@ -147,7 +147,7 @@ activate-good c o expiry s h = stamp_then s _ (λ n. pick-kept _ (accept-good c 
 
 activation-good : (c : Config) (o : VenueOrder) (life : ℕ) (s t : KernelState) → Held over (λ x. lots_on x o) nil t → Good Inv (activation c o life s t)
 unfolding activation
-activation-good c o life s t h = pick-kept _ (word_kept _ (λ at. pick-kept _ (activate-good c o _ t h) halt-kept) halt-kept) (activate-good c o _ t h)
+activation-good c o life s t h = pick-kept _ (some-kept _ (λ at. pick-kept _ (activate-good c o _ t h) halt-kept) halt-kept) (activate-good c o _ t h)
 
 -- ---- a cancel
 booked-good : (c : Config) (s : KernelState) (i : ℕ) (t : KernelState) → Inv t → Good Inv (cancel_booked c s i t)

@@ -10,7 +10,7 @@ use Rattle.state.specs.declared.Phase.TheVariants.{BeforeMatch, ObsQueued, Await
 use Rattle.rules.specs.Events.{pop_observation, Class, venue, delivery, observation, Next, nothing, next, next_of, handle, turn_on, event_turn, run_events}
 use Rattle.rules.specs.Phases.{queue_observation, match_phase, before_match, settle_row, settle, next_row, obs_queued, on_phase, phase_turn, phases}
 use Rattle.rules.proofs.Loop.{run_of}
-use Rattle.rules.proofs.Kept.{ran-kept, raised-kept, halt-kept, left-kept, pick-kept, some-kept, word_kept, taking-kept, putting-kept, then_kept, kept_map, iter-kept}
+use Rattle.rules.proofs.Kept.{ran-kept, raised-kept, halt-kept, left-kept, pick-kept, some-kept, taking-kept, putting-kept, then_kept, kept_map, iter-kept}
 use Rattle.rules.proofs.Steps.{delayed-kept}
 use Rattle.rules.proofs.Held.{Inv, Good}
 use Rattle.rules.proofs.HeldMessages.{apply_good}
@@ -46,13 +46,13 @@ queue_good c i row s h = delayed-kept c _ _ s _ (λ at rng. putting-kept _ _ _ (
 
 before-good : (c : Config) (rows : List ℕ) (s : KernelState) → Inv s → Good Inv (before_match c rows s)
 unfolding before_match match_phase
-before-good c rows s h = word_kept _
+before-good c rows s h = some-kept _
     (λ i. some-kept _ (λ row. then_kept (walk_good c _ s h) (λ t g. then_kept (match_row_good c row _ g) (queue_good c i row))) halt-kept)
     halt-kept
 
 settle-good : (c : Config) (rows : List ℕ) (s : KernelState) → Inv s → Good Inv (settle c rows s)
 unfolding settle settle_row
-settle-good c rows s h = word_kept _
+settle-good c rows s h = some-kept _
     (λ i. some-kept _ (λ row. then_kept (walk_good c _ s h) (λ t g. pick-kept _ (raised-kept g) halt-kept)) halt-kept)
     (ran-kept h)
 

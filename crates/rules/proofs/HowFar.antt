@@ -4,7 +4,7 @@ use mathlib.Core.List.{List, [], ◌∷◌}
 use mathlib.Core.Path.{◌≡◌, refl}
 use native.Mathlib.Omega.{arith}
 use lib.Dec.{eqb}
-use lib.ListN.{length, length-append, length-take}
+use lib.ListN.{length, length-take}
 use Rattle.lists.specs.Lists.{below, total}
 use Rattle.lists.proofs.Cases.{pick_case}
 use Rattle.book.specs.declared.MsgKind.{MsgKind}
@@ -12,7 +12,6 @@ use Rattle.book.specs.declared.MsgKind.TheVariants.{Cancel, Activate, Expire}
 use Rattle.book.specs.declared.VenueMsg.{VenueMsg}
 use Rattle.book.specs.declared.config.Config.{Config}
 use Rattle.state.specs.declared.Control.{Control}
-use Rattle.state.specs.declared.KernelEvent.TheVariants.{Halted}
 use Rattle.state.specs.declared.KernelState.{KernelState}
 use Rattle.state.specs.declared.Phase.{Phase}
 use Rattle.state.specs.declared.Phase.TheVariants.{BeforeMatch, ObsQueued, AwaitDecision, Terminal}
@@ -21,6 +20,7 @@ use Rattle.rules.specs.Phases.{on_phase, phase_turn, turns, phases}
 use Rattle.rules.specs.Calls.{Answer, refuse, answer_on, answer, counts_fit, advance}
 use Rattle.rules.specs.HowFar.{HowFar}
 use Rattle.rules.specs.FewEvents.{raisable_kind, raisable, msgs_events, queued_events, FewEvents}
+use Rattle.rules.proofs.Cases.{answer-few}
 use Rattle.rules.proofs.Counts.{Fitting, counts-fitting}
 use Rattle.rules.proofs.Loop.{run_of}
 use Rattle.rules.proofs.Bounded.{Within, ran_in, map_in, end_out, iter_in}
@@ -41,17 +41,6 @@ few-raisable (m ∷ l) = let e = few-raisable l in let w = go m.kind in omega ar
 -- messages within their capacity can raise 80 events
 few-msgs : (s : KernelState) → Fitting s → msgs_events s.msgs ≤ 80
 few-msgs s f = omega (arith, f.msgs, few-raisable (below s.msgs), length-take s.msgs.count s.msgs.slots)
-
--- a halt adds its event
-answer-few : {H : KernelState → Type 0} {P : ℕ → KernelState → Type 0} {n : ℕ} (r : Run) → Within H n P r → length (answer r).events ≤ n + 1
-unfolding answer
-answer-few {n = n} r g = go r.outcome
-  where
-    go : (o : Outcome) → length (answer_on o r.state r.events).events ≤ n + 1
-    go ran = omega (arith, g.few)
-    go left = omega (arith, g.few)
-    go (halt h) = omega (arith, g.few, length-append r.events (Halted h ∷ []))
-    go (ended ms) = omega (arith, g.few)
 
 -- the rows that can still be taken up: each queues an observation, and one that is taken from the queue ends the call
 abbrev pub rows_in : Phase → ℕ → ℕ
@@ -182,7 +171,7 @@ call_bounded c rows s = pick_case (Bounded s) (eqb (length rows % 5) 0) _ _
     (λ e.
     let f = counts-fitting s e in
     let g = phases-far c rows s f in
-    let n = answer-few (phases c rows s) g in
+    let n = answer-few (raised_from s) (phases c rows s) (omega (arith, g.few)) in
     let w = few-msgs s f in
     record { reached = answer-reached (phases c rows s) g; few = n; by_messages = omega arith; most = omega arith; beyond = λ b. omega arith })
     (λ _. refused_bounded 102 s))

@@ -15,7 +15,6 @@ use Rattle.state.specs.declared.HaltReason.TheVariants.{CounterOverflow}
 use Rattle.state.specs.declared.KernelEvent.{KernelEvent}
 use Rattle.state.specs.declared.KernelState.{KernelState}
 use Rattle.rules.specs.Run.{Outcome, Run, ran, left, halt, ended, ran_to, raised, halt_at, on_ran, after, and_then, putting, taking, Turn, again, last, on_turn, iter}
-use Rattle.rules.proofs.Cases.{word_case}
 use Rattle.rules.proofs.Loop.{run_of}
 use Rattle.lists.specs.declared.Arr.{Arr}
 
@@ -54,9 +53,6 @@ module _ {L : KernelState → Type 0} {E : List VenueMsg → KernelState → Typ
 
   pub some-kept : {A : Type 0} (o : Option A) {k : A → Run} {z : Run} → ((x : A) → Kept L E P (k x)) → Kept L E P z → Kept L E P (on_some o k z)
   some-kept o h g = some_case (Kept L E P) o _ _ (λ x _. h x) (λ _. g)
-
-  pub word_kept : (w : Option ℕ) {k : ℕ → Run} {z : Run} → ((n : ℕ) → Kept L E P (k n)) → Kept L E P z → Kept L E P (on_some w k z)
-  word_kept w h g = word_case (Kept L E P) w _ _ (λ n _. h n) (λ _. g)
 
   -- ---- an entry out of a list, an entry into a list
   pub taking-kept : {A : Type 0} {size : ℕ} {most : ℕ} {d : A} {i : ℕ} {r : Arr A size} {k : A → Arr A size → Run} {z : Run}

@@ -5,11 +5,10 @@ use mathlib.Core.Bool.{Bool}
 use mathlib.Core.List.{List, [], ◌∷◌, ◌++◌, map, append_assoc}
 use mathlib.Core.Logic.{◌↔◌}
 use mathlib.Core.Path.{◌≡◌, refl, sym, ap, ◌∙◌}
-use native.Mathlib.Omega.{arith}
 use Rattle.numbers.specs.Choice.{pick, on_some}
 use Rattle.numbers.specs.declared.position.Position.{Position}
 use Rattle.lists.specs.Lists.{Put, Taken, live}
-use Rattle.lists.proofs.Cases.{pick_case, some_case}
+use Rattle.lists.proofs.Cases.{pick_case, some_case, different}
 use Rattle.book.specs.declared.MsgKind.{MsgKind}
 use Rattle.book.specs.declared.MsgKind.TheVariants.{Cancel, Activate, Expire}
 use Rattle.book.specs.declared.ReportRec.{ReportRec}
@@ -32,7 +31,6 @@ use Rattle.rules.specs.Events.{pop_observation, Class, venue, delivery, observat
 use Rattle.rules.specs.Phases.{queue_observation, match_phase, before_match, settle_row, settle, next_row, obs_queued, on_phase, phase_turn, phases}
 use Rattle.rules.specs.Calls.{Did, refused, stays, halts, ends, Answer, answer_on, answer, advance, pass}
 use Rattle.rules.specs.Conservation.{Each}
-use Rattle.rules.proofs.Cases.{word_case}
 use Rattle.rules.proofs.Loop.{run_of}
 use Rattle.book.specs.declared.FillRec.{FillRec}
 use Rattle.lists.specs.declared.Arr.{Arr}
@@ -120,9 +118,6 @@ pick-signals b h k = pick_case Signals b _ _ (λ _. h) (λ _. k)
 some-signals : {A : Type 0} (o : Option A) {k : A → Run} {z : Run} → ((x : A) → Signals (k x)) → Signals z → Signals (on_some o k z)
 some-signals o h g = some_case Signals o _ _ (λ x _. h x) (λ _. g)
 
-word-signals : (w : Option ℕ) {k : ℕ → Run} {z : Run} → ((n : ℕ) → Signals (k n)) → Signals z → Signals (on_some w k z)
-word-signals w h g = word_case Signals w _ _ (λ n _. h n) (λ _. g)
-
 moved-signals : (m : Option Position) {k : Position → Run} {z : Run} → ((p : Position) → Signals (k p)) → Signals z → Signals (on_some m k z)
 unfolding on_some
 moved-signals None h g = g
@@ -148,11 +143,11 @@ iter-signals step h (suc n) s = go (step s) (h s) (iter-signals step h n)
 -- ---- reports
 stamp-signals : (s : KernelState) → Signals (stamp s)
 unfolding stamp
-stamp-signals s = word-signals _ (λ n. ran-signals) halt-signals
+stamp-signals s = some-signals _ (λ n. ran-signals) halt-signals
 
 delayed-signals : (c : Config) (from base : ℕ) (s : KernelState) {k : ℕ → KernelState → Run} → ((at : ℕ) (t : KernelState) → Signals (k at t)) → Signals (delayed c from base s k)
 unfolding delayed
-delayed-signals c from base s h = word-signals _ (λ at. h at _) halt-signals
+delayed-signals c from base s h = some-signals _ (λ at. h at _) halt-signals
 
 report_signals : (c : Config) (r : ReportRec) (f : Option FillRec) (s : KernelState) → Signals (queue_delivery c r f s)
 unfolding queue_delivery reported push_delivery
@@ -170,7 +165,7 @@ await-signals o s = pick-signals _ (putting-signals _ _ s) ran-signals
 accept-signals : (c : Config) (o : VenueOrder) (expiry : Option ℕ) (s t : KernelState) → Signals (accept c o expiry s t)
 unfolding accept book schedule_expiry schedule
 accept-signals c o expiry s t =
-    then_signals (report_signals c _ _ t) (λ u. then_signals (putting-signals _ _ u) (λ v. word-signals _ (λ at. word-signals _ (λ n. putting-signals _ _ _) halt-signals) ran-signals))
+    then_signals (report_signals c _ _ t) (λ u. then_signals (putting-signals _ _ u) (λ v. some-signals _ (λ at. some-signals _ (λ n. putting-signals _ _ _) halt-signals) ran-signals))
 
 reject-signals : (c : Config) (o : VenueOrder) (s t : KernelState) → Signals (reject c o s t)
 unfolding reject
@@ -201,14 +196,14 @@ expire-signals c id s = some-signals _ (λ i. then_signals (stamp-signals s) (λ
 acts-signals : (c : Config) (k : MsgKind) (s t : KernelState) → Signals (acts c k s t)
 unfolding activation
 acts-signals c (Cancel id) s t = cancel-signals c id t
-acts-signals c (Activate o life) s t = pick-signals _ (word-signals _ (λ at. pick-signals _ (activate-signals c o _ t) halt-signals) halt-signals) (activate-signals c o _ t)
+acts-signals c (Activate o life) s t = pick-signals _ (some-signals _ (λ at. pick-signals _ (activate-signals c o _ t) halt-signals) halt-signals) (activate-signals c o _ t)
 acts-signals c (Expire id) s t = expire-signals c id t
 
 -- ---- matching
 fill_signals : (c : Config) (i : ℕ) (o : VenueOrder) (n : ℕ) (s : KernelState) → Signals (fill_at c i o n s)
 unfolding fill_at fill_event fill_counted
 fill_signals c i o n s = then_signals (then_signals (stamp-signals s) (λ t.
-    some-signals _ (λ g. pick-signals _ (word-signals _ (λ e. word-signals _ (λ k. raised-signals tt) halt-signals) halt-signals) halt-signals) halt-signals)) (λ t. report_signals c _ _ _)
+    some-signals _ (λ g. pick-signals _ (some-signals _ (λ e. some-signals _ (λ k. raised-signals tt) halt-signals) halt-signals) halt-signals) halt-signals)) (λ t. report_signals c _ _ _)
 
 filling-signals : (c : Config) (i : ℕ) (s : KernelState) (f : Fills) → Signals (filling c i s f)
 filling-signals c i s no_fill = ran-signals
@@ -227,18 +222,18 @@ sweep-signals (suc k) i s = then_signals (pick-signals _ (taking-signals _ (λ o
 
 row-signals : (c : Config) (row : KernelTick) (s : KernelState) → Signals (match_row c row s)
 unfolding match_row sweep
-row-signals c row s = word-signals _ (λ mid2. then_signals (match_signals c row _ 0 _) (λ t. sweep-signals _ 0 t)) halt-signals
+row-signals c row s = some-signals _ (λ mid2. then_signals (match_signals c row _ 0 _) (λ t. sweep-signals _ 0 t)) halt-signals
 
 -- ---- deliveries
 move_signals : (f : Option FillRec) (s : KernelState) → Signals (move_agent f s)
 unfolding count_fill
 move_signals None s = ran-signals
-move_signals (Some f) s = moved-signals _ (λ p. word-signals _ (λ n. ran-signals) halt-signals) halt-signals
+move_signals (Some f) s = moved-signals _ (λ p. some-signals _ (λ n. ran-signals) halt-signals) halt-signals
 
 deliver-signals : (s : KernelState) → Signals (deliver_next s)
 unfolding deliver_next count_reject
 deliver-signals s = taking-signals _
-    (λ d l. then_signals (raised-signals tt) (λ t. then_signals (move_signals d.fill t) (λ u. then_signals (pick-signals _ (pick-signals _ (word-signals _ (λ n. ran-signals) halt-signals) ran-signals) ran-signals) (λ v. ran-signals))))
+    (λ d l. then_signals (raised-signals tt) (λ t. then_signals (move_signals d.fill t) (λ u. then_signals (pick-signals _ (pick-signals _ (some-signals _ (λ n. ran-signals) halt-signals) ran-signals) ran-signals) (λ v. ran-signals))))
     ran-signals
 
 all-signals : (n : ℕ) (s : KernelState) → Signals (deliver_all n s)
@@ -264,7 +259,7 @@ end_signals : (s : KernelState) → Signals (end_of_data s)
 unfolding end_of_data close_data
 end_signals s = then_signals (all-signals _ s)
     (λ t. let dropped : List VenueMsg = live 16 t.msgs in
-    after-signals (map dropped_event dropped) (dropped_plain dropped) (word-signals _ (λ m. word-signals _ (λ n. ended-signals _ _ _ _) halt-signals) halt-signals))
+    after-signals (map dropped_event dropped) (dropped_plain dropped) (some-signals _ (λ m. some-signals _ (λ n. ended-signals _ _ _ _) halt-signals) halt-signals))
 
 -- ---- the walk and the phases
 handle-signals : (c : Config) (k : Class) (s : KernelState) → Signals (handle c k s)
@@ -283,13 +278,13 @@ walk_signals c limit s = iter-signals (event_turn c limit) (λ t. turn-signals c
 
 before-signals : (c : Config) (rows : List ℕ) (s : KernelState) → Signals (before_match c rows s)
 unfolding before_match match_phase queue_observation
-before-signals c rows s = word-signals _ (λ i. some-signals _ (λ row.
+before-signals c rows s = some-signals _ (λ i. some-signals _ (λ row.
     then_signals (walk_signals c _ s) (λ t. then_signals (row-signals c row _) (λ u. delayed-signals c _ _ u (λ at v. putting-signals _ _ _)))) halt-signals) halt-signals
 
 settle-signals : (c : Config) (rows : List ℕ) (s : KernelState) → Signals (obs_queued c rows s)
 unfolding obs_queued settle settle_row next_row
 settle-signals c rows s = then_signals
-    (word-signals _ (λ i. some-signals _ (λ row. then_signals (walk_signals c _ s) (λ t. pick-signals _ (raised-signals tt) halt-signals)) halt-signals) ran-signals)
+    (some-signals _ (λ i. some-signals _ (λ row. then_signals (walk_signals c _ s) (λ t. pick-signals _ (raised-signals tt) halt-signals)) halt-signals) ran-signals)
     (λ t. pick-signals _ (pick-signals _ ran-signals ran-signals) (end_signals t))
 
 phase_signals : (p : Phase) (c : Config) (rows : List ℕ) (s : KernelState) → Signals (run_of (on_phase p c rows s))
@@ -325,7 +320,7 @@ pub pass_last_event : (s : KernelState) → LastEvent (pass s)
 unfolding pass
 pass_last_event s =
     pick_case LastEvent _ _ _
-    (λ _. pick_case LastEvent _ _ _ (λ _. pick_case LastEvent _ _ _ (λ _. word_case LastEvent _ _ _ (λ n _. silent refl) (λ _. silent refl)) (λ _. silent refl)) (λ _. silent refl))
+    (λ _. pick_case LastEvent _ _ _ (λ _. pick_case LastEvent _ _ _ (λ _. some_case LastEvent _ _ _ (λ n _. silent refl) (λ _. silent refl)) (λ _. silent refl)) (λ _. silent refl))
     (λ _. silent refl)
 
 -- ---- both ways, by the last event
@@ -337,34 +332,28 @@ last-behind (y ∷ z ∷ l) x = last-behind (z ∷ l) x
 
 last-plain : (l : List KernelEvent) → Each Plain l → (e : KernelEvent) → last_in l ≡ Some e → Plain e
 unfolding last_in Each
-last-plain [] h e p = absurd (nothing-there p)
-  where
-    nothing-there : None ≡ Some e → ⊥
-    nothing-there q = let z : ◌≡◌ {A = ℕ} 0 1 = cc in omega arith
+last-plain [] h e p = different cc
 last-plain (x ∷ []) h e p = let q : x ≡ e = cc in rw q at h.0
 last-plain (x ∷ y ∷ l) h e p = last-plain (y ∷ l) h.1 e p
-
-apart : ◌≡◌ {A = ℕ} 0 1 → ⊥
-apart z = absurd (omega arith)
 
 -- "halts h" exactly where the last event is `Halted h`
 pub halted-last : (a : Answer) → LastEvent a → (h : HaltReason) → (a.did ≡ halts h) ↔ (last_in a.events ≡ Some (Halted h))
 halted-last a t h = go a.did a.events t.behind
   where
     go : (d : Did) (es : List KernelEvent) → Behind d t.front es → (d ≡ halts h) ↔ (last_in es ≡ Some (Halted h))
-    go (refused r) es q = ((λ p. absurd (apart (cc))), (λ p. absurd (last-plain t.front t.plain (Halted h) (rw q at p))))
-    go stays es q = ((λ p. absurd (apart (cc))), (λ p. absurd (last-plain t.front t.plain (Halted h) (rw q at p))))
+    go (refused r) es q = ((λ p. different cc), (λ p. absurd (last-plain t.front t.plain (Halted h) (rw q at p))))
+    go stays es q = ((λ p. different cc), (λ p. absurd (last-plain t.front t.plain (Halted h) (rw q at p))))
     go (halts k) es q = ((λ p. rw (q, last-behind t.front (Halted k)) (cc)), (λ p. let e : Some (Halted k) ≡ Some (Halted h) = rw (q, last-behind t.front (Halted k)) at p in cc))
     go (ends dropped) es q =
-        ((λ p. absurd (apart (cc))), (λ p. let e : Some (EndOfData q.0 q.1) ≡ Some (Halted h) = rw (q.2, last-behind t.front (EndOfData q.0 q.1)) at p in absurd (apart (cc))))
+        ((λ p. different cc), (λ p. let e : Some (EndOfData q.0 q.1) ≡ Some (Halted h) = rw (q.2, last-behind t.front (EndOfData q.0 q.1)) at p in different cc))
 
 -- "ends" exactly where the last event is `EndOfData`
 pub ended-last : (a : Answer) → LastEvent a → ((dropped : List VenueMsg) × (a.did ≡ ends dropped)) ↔ ((m : ℕ) × (n : ℕ) × (last_in a.events ≡ Some (EndOfData m n)))
 ended-last a t = go a.did a.events t.behind
   where
     go : (d : Did) (es : List KernelEvent) → Behind d t.front es → ((dropped : List VenueMsg) × (d ≡ ends dropped)) ↔ ((m : ℕ) × (n : ℕ) × (last_in es ≡ Some (EndOfData m n)))
-    go (refused r) es q = ((λ p. let e = p.1 in absurd (apart (cc))), (λ p. absurd (last-plain t.front t.plain (EndOfData p.0 p.1) (rw q at p.2))))
-    go stays es q = ((λ p. let e = p.1 in absurd (apart (cc))), (λ p. absurd (last-plain t.front t.plain (EndOfData p.0 p.1) (rw q at p.2))))
+    go (refused r) es q = ((λ p. let e = p.1 in different cc), (λ p. absurd (last-plain t.front t.plain (EndOfData p.0 p.1) (rw q at p.2))))
+    go stays es q = ((λ p. let e = p.1 in different cc), (λ p. absurd (last-plain t.front t.plain (EndOfData p.0 p.1) (rw q at p.2))))
     go (halts k) es q =
-        ((λ p. let e = p.1 in absurd (apart (cc))), (λ p. let e : Some (Halted k) ≡ Some (EndOfData p.0 p.1) = rw (q, last-behind t.front (Halted k)) at p.2 in absurd (apart (cc))))
+        ((λ p. let e = p.1 in different cc), (λ p. let e : Some (Halted k) ≡ Some (EndOfData p.0 p.1) = rw (q, last-behind t.front (Halted k)) at p.2 in different cc))
     go (ends dropped) es q = ((λ p. (q.0, q.1, rw q.2 (last-behind t.front (EndOfData q.0 q.1)))), (λ p. (dropped, refl)))

@@ -38,20 +38,20 @@ same_end u v i h = sym (has_row u i) ∙ ap (λ (o : Option KernelTick). on_some
 abbrev AtCurrent : List ℕ → List ℕ → Option ℕ → Type 0
 AtCurrent u v w = (i : ℕ) → w ≡ Some i → Alike u v i
 
-word_alike : (w : Option ℕ) (k j : ℕ → Run) (z : Run) → ((i : ℕ) → w ≡ Some i → k i ≡ j i) → on_some w k z ≡ on_some w j z
+some_alike : (w : Option ℕ) (k j : ℕ → Run) (z : Run) → ((i : ℕ) → w ≡ Some i → k i ≡ j i) → on_some w k z ≡ on_some w j z
 unfolding on_some
-word_alike None k j z h = refl
-word_alike (Some i) k j z h = h i refl
+some_alike None k j z h = refl
+some_alike (Some i) k j z h = h i refl
 
 module _ (c : Config) (u v : List ℕ) where
   -- ---- the two turns
   before_alike : (s : KernelState) → AtCurrent u v s.control.cur_row → before_match c u s ≡ before_match c v s
   unfolding before_match
-  before_alike s h = word_alike _ _ _ _ (λ i e. rw (h i e))
+  before_alike s h = some_alike _ _ _ _ (λ i e. rw (h i e))
 
   settle_alike : (s : KernelState) → AtCurrent u v s.control.cur_row → settle c u s ≡ settle c v s
   unfolding settle
-  settle_alike s h = word_alike _ _ _ _ (λ i e. rw (h i e))
+  settle_alike s h = some_alike _ _ _ _ (λ i e. rw (h i e))
 
   next_alike : (s : KernelState) → ltb s.control.cursor (length u / 5) ≡ ltb s.control.cursor (length v / 5) → next_row c u s ≡ next_row c v s
   unfolding next_row

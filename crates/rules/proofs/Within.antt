@@ -17,7 +17,6 @@ use Rattle.state.specs.declared.HaltReason.TheVariants.{CounterOverflow}
 use Rattle.state.specs.declared.KernelEvent.{KernelEvent}
 use Rattle.state.specs.declared.KernelState.{KernelState}
 use Rattle.rules.specs.Run.{Outcome, Run, ran, left, halt, ended, ran_to, raised, halt_at, on_ran, after, and_then, putting, taking, Turn, again, last, on_turn, iter}
-use Rattle.rules.proofs.Cases.{word_case}
 use Rattle.rules.proofs.Loop.{run_of}
 use Rattle.lists.specs.declared.Arr.{Arr}
 
@@ -58,9 +57,6 @@ module _ {P : ℕ → KernelState → Type 0} {n : ℕ} where
 
   pub some_in : {A : Type 0} (o : Option A) {k : A → Run} {z : Run} → ((x : A) → Within n P (k x)) → Within n P z → Within n P (on_some o k z)
   some_in o h g = some_case (Within n P) o _ _ (λ x _. h x) (λ _. g)
-
-  pub word_in : (w : Option ℕ) {k : ℕ → Run} {z : Run} → ((q : ℕ) → Within n P (k q)) → Within n P z → Within n P (on_some w k z)
-  word_in w h g = word_case (Within n P) w _ _ (λ q _. h q) (λ _. g)
 
   pub moved_in : (w : Option Position) {k : Position → Run} {z : Run} → ((q : Position) → Within n P (k q)) → Within n P z → Within n P (on_some w k z)
   unfolding on_some

@@ -1,5 +1,6 @@
 -- The steps of reading a run file. Assumes nothing.
-use Rattle.std.specs.Prelude.{Some, None}
+use Rattle.std.specs.Prelude.{Option, Some, None, Result, Ok, Err}
+use Rattle.std.specs.Result.{result_or}
 use Prim.Native.Nat.{ℕ, ◌+◌, ◌≤◌, ◌<◌}
 use mathlib.Core.Path.{◌≡◌, refl, sym}
 use mathlib.Core.Bool.{true, false, ◌&&◌}
@@ -12,7 +13,11 @@ use borrow.Author.Tests.{le-leb, lt-leb}
 use Rattle.numbers.specs.Choice.{pick, on_some}
 use Rattle.text.specs.Fields.{parted, parted_once}
 use Rattle.text.proofs.PartedLaws.{parted_some, once_none, once_some}
-use Rattle.runtake.specs.Take.{Reading, take_text}
+use Rattle.runtake.specs.Take.{Reading, reading_of, Takes, take_text}
+use Rattle.runtake.specs.declared.BadLine.{BadLine}
+use Rattle.runtake.specs.declared.Reading as code
+use Rattle.runtext.specs.declared.Fault.{Fault}
+use Rattle.lists.proofs.Cases.{different}
 use Rattle.runtext.specs.Read.{is_empty, closing, good, bad_at, read_parts, read_lines}
 
 parts_there : (l : List ℕ) → is_empty (parted 10 l) ≡ false
@@ -55,6 +60,15 @@ module _ (n : ℕ) (r : Reading) (rest : List ℕ) where
     pub line_bad : None ≡ take_text n line r → read_parts n r (parted 10 rest) ≡ bad_at (n + 1) r
     unfolding on_some
     line_bad f = rw (next_part, ← f)
+
+-- ---- how a line ended, with the fault that it is where it is bad
+pub is_taken : (result : Result (Unit {0}) BadLine) (old new : code.Reading) (fault : Fault) {v : Unit {0}} {o : Option Reading} → Takes result old new o → Ok v ≡ result_or result (Err fault) → Some (reading_of new) ≡ o
+is_taken (Ok u) old new fault t e = t.0
+is_taken (Err b) old new fault t e = different cc
+
+pub is_bad : (result : Result (Unit {0}) BadLine) (old new : code.Reading) (fault : Fault) {f : Fault} {o : Option Reading} → Takes result old new o → Err f ≡ result_or result (Err fault) → (None ≡ o) × (new ≡ old) × (f ≡ fault)
+is_bad (Ok u) old new fault t e = different cc
+is_bad (Err b) old new fault t e = (t.0, t.1, cc)
 
 -- ---- the whole text
 module _ (text : List ℕ) (r : Reading) where

@@ -4,7 +4,7 @@ use mathlib.Core.List.{List, [], ◌∷◌}
 use mathlib.Core.Path.{◌≡◌, refl}
 use native.Mathlib.Omega.{arith}
 use Rattle.lists.specs.Lists.{below, total}
-use Rattle.lists.proofs.Cases.{pick_case}
+use Rattle.lists.proofs.Cases.{pick_case, some_case}
 use Rattle.book.specs.declared.VenueOrder.{VenueOrder}
 use Rattle.msgs.specs.Rows.{Msgs}
 use Rattle.account.specs.Rows.{AgentAccount}
@@ -13,7 +13,6 @@ use Rattle.rules.specs.Batch.{state_after}
 use Rattle.rules.specs.Calls.{Answer, pass}
 use Rattle.rules.specs.Conservation.{Call, advances, passes}
 use Rattle.rules.specs.FewEvents.{raisable_kind, raisable, msgs_events}
-use Rattle.rules.proofs.Cases.{word_case}
 use Rattle.rules.proofs.HowFar.{few-events}
 use Rattle.runtake.specs.Take.{Reading, blank_reading, take_order, take_cancel}
 use Rattle.runtext.specs.Read.{start_state, read_text}
@@ -70,7 +69,7 @@ pass-light : (w : ℕ) (s : KernelState) → msgs_events s.msgs ≤ w → msgs_e
 unfolding pass
 pass-light w s h =
     let P : Answer → Type 0 = λ a. msgs_events a.state.msgs ≤ w in
-    pick_case P _ _ _ (λ _. pick_case P _ _ _ (λ _. pick_case P _ _ _ (λ _. word_case P _ _ _ (λ _ _. h) (λ _. h)) (λ _. h)) (λ _. h)) (λ _. h)
+    pick_case P _ _ _ (λ _. pick_case P _ _ _ (λ _. pick_case P _ _ _ (λ _. some_case P _ _ _ (λ _ _. h) (λ _. h)) (λ _. h)) (λ _. h)) (λ _. h)
 
 calls-light : (w : ℕ) (calls : List Call) (s : KernelState) → msgs_events s.msgs ≤ w → msgs_events (state_after calls s).msgs ≤ w
 unfolding state_after

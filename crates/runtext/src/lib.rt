@@ -125,9 +125,7 @@ fn read_lines(reading: &mut Reading, text: &[u8]) -> Result<(), Fault>
     let mut rest = text;
     let mut n = 0;
     while let Some((line, behind)) = split_once(rest, b'\n') {
-        let Ok(()) = take_text(reading, n, line) else {
-            return Err(Fault::Line(n + 1));
-        };
+        take_text(reading, n, line).or(Err(Fault::Line(n + 1)))?;
         n += 1;
         rest = behind;
     }

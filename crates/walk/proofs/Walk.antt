@@ -1,7 +1,6 @@
 -- The walk over the three queues: one law for each way out. Assumes nothing.
 use Prim.Native.Nat.{ℕ, ◌<◌, ◌≤◌, max}
 use mathlib.Core.Path.{◌≡◌, refl, sym, ap, ◌∙◌}
-use native.Mathlib.Omega.{arith}
 use borrow.Author.Tests.{lt-leb, le-leb}
 use Rattle.std.specs.Prelude.{Some, None, Ok, Err}
 use Rattle.numbers.specs.Choice.{pick}
@@ -18,10 +17,10 @@ use Rattle.state.specs.declared.KernelState.{KernelState}
 use Rattle.rules.specs.Run as rules
 use Rattle.rules.specs.Events.{paused_at, truncated, pop_observation, Class, nothing, next, next_of, clock_to, handle, event_turn, weight, run_events}
 use Rattle.rules.proofs.Falls.{event_falls, walk_again, walk_last}
-use Rattle.reports.specs.Log.{Logged, append_event, append_events, outcome_of, StepResult, expected, actual}
+use Rattle.reports.specs.Log.{Logged, append_event, append_events, StepResult, expected, actual}
 use Rattle.reports.specs.declared.Stop.{Stop}
 use Rattle.reports.specs.declared.Stop.TheVariants as stop
-use Rattle.reports.proofs.Then.{ran_here, then_on, then_stop, take_on, take_none}
+use Rattle.reports.proofs.Then.{ran_here, ran_there, then_on, then_stop, take_on, take_none}
 
 -- ---- an observation
 pub pop_none : (c : Config) (l : Logged) (s : KernelState) (q : Observed) → taken_of None q ≡ popped 16 blank_obs s.observed → actual (Ok tt) (with_observed s q) l ≡ expected l (pop_observation c s)
@@ -40,17 +39,6 @@ module _ (c : Config) (l : Logged) (s : KernelState) (e : ObsEntry) (q : Observe
       → actual (Err stop.Left) (with_agent (with_control (with_observed s q) k) (agent_last_obs_row s.agent (Some e.row))) m ≡ expected l (pop_observation c s)
   unfolding pop_observation pick expected append_events
   pop_pauses g hm hk = take_on l (popped 16 blank_obs s.observed) _ _ h (rw (lt-leb c.s_max s.control.step g, hk, hm))
-
--- ---- a step that ran
-only_ran : (o : rules.Outcome) → Ok tt ≡ outcome_of o → o ≡ rules.ran
-only_ran rules.ran e = refl
-only_ran rules.left e = let z : ◌≡◌ {A = ℕ} 0 1 = cc in absurd (omega arith)
-only_ran (rules.halt h) e = let z : ◌≡◌ {A = ℕ} 0 1 = cc in absurd (omega arith)
-only_ran (rules.ended ms) e = let z : ◌≡◌ {A = ℕ} 0 1 = cc in absurd (omega arith)
-
-ran_to_there : (l m : Logged) (t : KernelState) (r : rules.Run) → actual (Ok tt) t m ≡ expected l r → (r.outcome ≡ rules.ran) × (r.state ≡ t)
-unfolding expected
-ran_to_there l m t r e = (only_ran r.outcome (ap (λ (x : StepResult). x.outcome) e), sym (ap (λ (x : StepResult). x.state) e))
 
 -- ---- the walk: nothing is due
 pub walk_done : (c : Config) (limit : ℕ) (l : Logged) (s : KernelState) → nothing ≡ next_of limit s → actual (Ok tt) s l ≡ expected l (run_events c limit s)
@@ -81,5 +69,5 @@ module _ (c : Config) (limit : ℕ) (l m : Logged) (s t : KernelState) (k : Clas
   -- the weight falls, so the walk ends
   pub walk_falls : actual (Ok tt) t m ≡ expected l (handle c k (with_clock s (clock_now_ns s.clock now))) → weight t < weight s
   walk_falls p =
-      let g = ran_to_there l m t handled (risen p) in
+      let g = ran_there l handled (risen p) in
       rw g.1 at (event_falls c limit s handled turn g.0)

@@ -1,17 +1,18 @@
 -- `phases::before_match` meets its contract, by the laws of `Exits`. Assumes nothing.
 use mathlib.Core.Path.{sym, ◌∙◌}
 use Rattle.reports.proofs.Then.{hands_stop}
-use Rattle.phases.proofs.Exits.{some_of, none_of, match_nowhere, match_no_row, match_walked, match_halted, match_unseen, match_seen}
+use Rattle.reports.proofs.Then.{some_of, none_of}
+use Rattle.phases.proofs.Exits.{match_nowhere, match_no_row, match_walked, match_halted, match_unseen, match_seen}
 use Rattle.phases.proofs.before_match.Goals as goal
 
 pub returns-in_err-index : goal.returns-in_err-index
 returns-in_err-index c =
-    let o = none_of _ _ c.in_err-index.ensures.value in
+    let o = none_of _ c.in_err-index.ensures.value in
     hands_stop c.from_residual.ensures (rw o.1 (match_nowhere _ _ _ _ o.0))
 
 pub returns-in_err-row : goal.returns-in_err-row
 returns-in_err-row c =
-    let o = none_of _ _ c.in_err-row.ensures.value in
+    let o = none_of _ c.in_err-row.ensures.value in
     hands_stop c.from_residual-in_err-row.ensures (rw o.1 (match_no_row _ _ _ _ (some_of _ _ c.in_ok-index.ensures.value) (sym c.row_at.ensures ∙ o.0)))
 
 pub returns-in_err-run_events : goal.returns-in_err-run_events

@@ -1,5 +1,5 @@
 // A batch of calls (advance of step.rs of the Rust), and the passes between them.
-// What a step takes, the rows too, stands apart, as in `reports`.
+// What a step takes, the rows too, stands apart, as in `reports`. The rows are words, as a rule of the project has them.
 #![tactic(auto)]
 
 ghost use Rattle.std.specs.Prelude.{◌≡◌, ◌/◌, length};
@@ -20,7 +20,7 @@ use state::{HaltReason, KernelEvent, KernelState, Refusal, Status};
 // The records of the log that another call must have room for.
 const CALL_RECORDS: usize = 512;
 
-// What a batch gives: the answer and the state of its last call, how many events all its calls raised, and how many the last one did. The state comes back in every case, refused or not, and so stands beside the answer and not in it; the counts too, since a refused batch raised none.
+// What a batch gives: the answer and the state of its last call, how many events all its calls raised, and how many the last one did. By a rule of the project the state goes in by value and comes back in every case, refused or not, and so stands beside the answer and not in it; the counts too, since a refused batch raised none.
 #[derive(Clone, Copy)]
 pub struct Advanced {
     pub answer: Result<(), Refusal>,

@@ -126,7 +126,7 @@ fn main(rt: HostRuntime) -> io::Result<()> {
     let repeats = argument(&args, 4, 1);
     let passes = argument(&args, 5, 0);
     for kind in Kind::ALL {
-        if number == 0 || Kind::try_from(number) == Ok(kind) {
+        if number == 0 || number == u64::from(kind) {
             play_day(&rt, Day { kind, rows, orders }, repeats, passes)?;
         }
     }

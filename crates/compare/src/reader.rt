@@ -70,9 +70,7 @@ impl<R: BufRead> Lines<R> {
             return Err(self.bad());
         }
         // a field is ASCII
-        let Ok(text) = str::from_utf8(&self.line) else {
-            return Err(self.bad());
-        };
+        let text = str::from_utf8(&self.line).or(Err(self.bad()))?;
         let mut fields = Fields {
             rest: text.split(' '),
             line: self.number,

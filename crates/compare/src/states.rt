@@ -5,16 +5,8 @@ use lists::{Arr, Blank};
 use state::{AgentView, Clock, Control, Counters, GateState, KernelState, Seqs};
 use std::io::{self, BufRead, Write};
 
-// The lines before the lists.
-#[derive(Drop)]
-struct Head {
-    control: Control,
-    clock: Clock,
-    rng_latency: u64,
-    seqs: Seqs,
-}
-
-fn read_head<R: BufRead>(lines: &mut Lines<R>) -> Result<Head, ReadError> {
+// What the lines before the lists say; the rest is blank.
+fn read_head<R: BufRead>(lines: &mut Lines<R>) -> Result<KernelState, ReadError> {
     let phase = lines.entry("phase")?;
     let resume = lines.entry("resume")?;
     let cursor = lines.entry("cursor")?;
@@ -28,7 +20,7 @@ fn read_head<R: BufRead>(lines: &mut Lines<R>) -> Result<Head, ReadError> {
     let next_exec_id = lines.entry("nextexec")?;
     let last_delivery_ns = lines.entry("lastdelivery")?;
     let last_observed_ns = lines.entry("lastobserved")?;
-    Ok(Head {
+    Ok(KernelState {
         control: Control {
             phase,
             resume,
@@ -48,6 +40,7 @@ fn read_head<R: BufRead>(lines: &mut Lines<R>) -> Result<Head, ReadError> {
             next_msg_seq,
             next_exec_id,
         },
+        ..KernelState::default()
     })
 }
 
@@ -94,17 +87,8 @@ fn read_counters<R: BufRead>(lines: &mut Lines<R>) -> Result<Counters, ReadError
 }
 
 pub fn read_state<R: BufRead>(lines: &mut Lines<R>) -> Result<KernelState, ReadError> {
-    let Head {
-        control,
-        clock,
-        rng_latency,
-        seqs,
-    } = read_head(lines)?;
+    let head = read_head(lines)?;
     Ok(KernelState {
-        control,
-        clock,
-        rng_latency,
-        seqs,
         orders: read_list(lines, "orders", "order")?,
         msgs: read_list(lines, "msgs", "msg")?,
         awaiting: read_list(lines, "awaiting", "order")?,
@@ -114,6 +98,7 @@ pub fn read_state<R: BufRead>(lines: &mut Lines<R>) -> Result<KernelState, ReadE
         gate: read_gate(lines)?,
         agent: read_agent(lines)?,
         counters: read_counters(lines)?,
+        ..head
     })
 }
 

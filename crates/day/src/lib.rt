@@ -11,6 +11,7 @@ use book::config::Config;
 use kernel::pass;
 use lines::{Raised, put_last};
 use reports::log::WORDS;
+use runtake::MOST_ROWS;
 use state::KernelState;
 use write::Writer;
 
@@ -19,9 +20,6 @@ pub const LOG_WORDS: usize = 1023 * WORDS;
 
 // Bytes that have room for every line of such a log.
 pub const TEXT_BYTES: usize = 131072;
-
-// The passes of a batch: as many as a run file has rows.
-const BATCH_PASSES: u64 = 512;
 
 // How far a run has come: its state, and the lots filled so far.
 #[derive(Clone, Copy)]
@@ -36,7 +34,7 @@ impl Progress {
         ensures whole_outcome { actual_turns result self.new log.new text.new ≡ turned cfg.now rows.now self.old log.old text.old }
         ensures prints_turns { length log.old ≡ LOG_WORDS → text.old.len ≡ 0 → length text.old.out.now ≡ TEXT_BYTES → PrintsTurns cfg.now rows.now self.old result self.new (take text.new.len text.new.out.now) }
     {
-        let a = run(cfg, rows, self.state, log, BATCH_PASSES);
+        let a = run(cfg, rows, self.state, log, MOST_ROWS as u64);
         let raised = Raised {
             log,
             events: a.events,

@@ -1,4 +1,4 @@
-// The kernel's two calls: `advance` and `pass` (step.rs of the Rust). A state goes in by value and comes back. `advance` is a batch with no pass: `batch::run` makes several calls with the state handed over once.
+// The kernel's two calls: `advance` and `pass` (step.rs of the Rust). A state goes in by value and comes back, as a rule of the project has it. `advance` is a batch with no pass: `batch::run` makes several calls with the state handed over once.
 #![tactic(auto)]
 
 ghost use Rattle.std.specs.Prelude.{[], ◌≡◌};
@@ -17,7 +17,7 @@ pub fn advance(cfg: &Config, rows: &[u64], state: KernelState, log: &mut [u64]) 
     run(cfg, rows, state, log, 0)
 }
 
-// What a pass gives. The state comes back in every case, refused or not, and so stands beside the answer and not in it.
+// What a pass gives. By a rule of the project the state goes in by value and comes back in every case, refused or not, and so stands beside the answer and not in it.
 #[derive(Clone, Copy)]
 pub struct Passed {
     pub answer: Result<(), Refusal>,

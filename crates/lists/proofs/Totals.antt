@@ -1,8 +1,13 @@
 -- More about sums over the slots below the count: an entry stored in its place, and a walk over the places from the front. Assumes nothing.
 use Prim.Native.Nat.{ℕ, suc, ◌+◌, ◌≤◌, ◌<◌}
-use mathlib.Core.List.{[]}
+use mathlib.Core.List.{List, []}
 use mathlib.Core.Path.{◌≡◌, refl, sym, ap, ◌∙◌}
+use native.Mathlib.Numerals.{unary_clauses}
 use native.Mathlib.Omega.{arith}
+use Rattle.std.specs.Borrow.{Bor}
+use Rattle.std.specs.Prelude.{Option, Some, None}
+use Rattle.std.specs.Option.{UnwrapsOrElse}
+use Rattle.std.specs.Slice.{IsGetRangeResult}
 use lib.ListN.{length, take, get_or, length-take}
 use lib.Seq.{take_all, take-take, get_or-take}
 use borrow.Author.Tests.{lt-ltb, le-leb, lt-leb}
@@ -21,6 +26,11 @@ module _ {A : Type 0} where
   pub live_none : {n : ℕ} (cap : ℕ) (r : Arr A n) → cap < r.count → live cap r ≡ []
   unfolding live pick
   live_none cap r h = rw (lt-leb _ _ h)
+
+  -- the slots up to the count are lent, or nothing where it is past them
+  pub live_lent : {n : ℕ} (cap : ℕ) (r : Arr A n) (o : Option (Bor (List A))) (x : Bor (List A)) → length r.slots ≡ cap → IsGetRangeResult r.slots 0 r.count o → UnwrapsOrElse o (λ y. y.now ≡ []) x → x.now ≡ live cap r
+  live_lent cap r None x h g u = u ∙ sym (live_none cap r (omega (arith, h, g.0)))
+  live_lent cap r (Some y) x h g u = rw u (simp unary_clauses at g.0.2) ∙ sym (live_below cap r (omega (arith, h, g.0.1)))
 
 -- ---- what is known of a list after an entry was stored at place i
 pub record Stored {A : Type 0} {n : ℕ} (d : A) (i : ℕ) (v : A) (r l : Arr A n) : Type 0 where

@@ -47,10 +47,7 @@ impl<T: Blank, const N: usize> Arr<T, N> {
     pub fn as_slice(&self) -> &[T]
         ensures { result.now ≡ live N self.now }
     {
-        if self.count > N {
-            return &self.slots[..0];
-        }
-        &self.slots[..self.count]
+        self.slots.get(..self.count).unwrap_or_default()
     }
 
     pub fn get(&self, at: usize) -> Option<T>
@@ -60,7 +57,7 @@ impl<T: Blank, const N: usize> Arr<T, N> {
     }
 
     // Each entry from the place on moves one slot up: it is carried to its new slot by the one before it.
-    // By places, as a rule of the project has it: entries shift within the row, each by one store. `rotate_right` and `copy_within` promise nothing of stores.
+    // By places, as a rule of the project has it: each entry shifts by one store, and its stores are to be counted where they are made, which `copy_within` and `rotate_right` leave nothing of.
     pub fn insert(&mut self, at: usize, value: T) -> Result<(), Full>
         ensures { put_of result self.new ≡ put_at N at value self.old }
     {
@@ -127,6 +124,7 @@ impl<T: Blank, const N: usize> Arr<T, N> {
         if self.count > N {
             return;
         }
+        // no `fill`: it asks that a copy cannot fail, which `T: Copy` does not say
         for slot in &mut self.slots[..self.count] {
             *slot = T::blank();
         }

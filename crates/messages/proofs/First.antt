@@ -5,19 +5,16 @@ use mathlib.Core.Path.{◌≡◌, refl, sym, ap, ◌∙◌}
 use lib.Dec.{leb, ltb}
 use Rattle.std.specs.Prelude.{Option, Some}
 use Rattle.numbers.specs.Choice.{pick}
+use Rattle.lists.proofs.Cases.{pick_both}
 use Rattle.lists.specs.Lists.{Taken, taken_of, taken_at, entry_at}
 use Rattle.lists.specs.declared.Arr.{Arr}
-
-got_of : {A : Type 0} {n : ℕ} (a b : Bool) (x y z : Taken A n) → (pick a (pick b x y) z).got ≡ pick a (pick b x.got y.got) z.got
-unfolding pick
-got_of true true x y z = refl
-got_of true false x y z = refl
-got_of false b x y z = refl
 
 module _ {A : Type 0} {n : ℕ} (cap : ℕ) (d : A) (i : ℕ) (r : Arr A n) where
   took : (taken_at cap d i r).got ≡ entry_at cap d i r
   unfolding taken_at entry_at
-  took = got_of (leb r.count cap) (ltb i r.count) _ _ _
+  took =
+      pick_both (λ (t : Taken A n) (o : Option A). t.got ≡ o) (leb r.count cap) _ _ _ _
+      (λ _. pick_both (λ (t : Taken A n) (o : Option A). t.got ≡ o) (ltb i r.count) _ _ _ _ (λ _. refl) (λ _. refl)) (λ _. refl)
 
   -- what stands there would come out, and did
   pub would_come : {x : A} → Some x ≡ entry_at cap d i r → taken_of (Some x) (taken_at cap d i r).list ≡ taken_at cap d i r

@@ -20,25 +20,14 @@ pub fn move_by(position: Position, side: Side, lots: u64) -> Option<Position>
 
 // Lots of a side are live no more.
 #[tactic(auto, using(crate::proofs::Numbers::left_over), unfolding(rules::specs::Messages::released, book::specs::Entries::on_side, numbers::specs::Choice::pick))]
-pub fn release(gate: GateState, side: Side, lots: u64) -> Option<GateState>
+pub fn release(mut gate: GateState, side: Side, lots: u64) -> Option<GateState>
     ensures { result ≡ released side lots gate }
 {
     match side {
-        Side::Buy => {
-            let live_buy_lots = gate.live_buy_lots.checked_sub(lots)?;
-            Some(GateState {
-                live_buy_lots,
-                ..gate
-            })
-        }
-        Side::Sell => {
-            let live_sell_lots = gate.live_sell_lots.checked_sub(lots)?;
-            Some(GateState {
-                live_sell_lots,
-                ..gate
-            })
-        }
+        Side::Buy => gate.live_buy_lots = gate.live_buy_lots.checked_sub(lots)?,
+        Side::Sell => gate.live_sell_lots = gate.live_sell_lots.checked_sub(lots)?,
     }
+    Some(gate)
 }
 
 // Lots of a side are filled.

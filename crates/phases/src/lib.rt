@@ -1,5 +1,5 @@
 // The phases of a row (advance_inner of step.rs of the Rust).
-// What a step takes, the rows too, stands apart, as in `reports`.
+// What a step takes, the rows too, stands apart, as in `reports`. The rows are words, as a rule of the project has them.
 #![tactic(auto)]
 
 ghost use Rattle.std.specs.Prelude.{◌≡◌};

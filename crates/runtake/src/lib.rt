@@ -15,7 +15,7 @@ use runline::Line;
 pub const HEAD_LINES: u64 = 2;
 
 // The most rows of a run file, and the words of all.
-const MOST_ROWS: usize = 512;
+pub const MOST_ROWS: usize = 512;
 
 pub const MOST_WORDS: usize = MOST_ROWS * ROW_WORDS;
 
@@ -39,21 +39,16 @@ pub struct Lots {
 impl Lots {
     // The lots of an order are reserved, if all quantities together stay within 64 bits.
     #[tactic(auto, using(std::proofs::lemmas::Bool::Decides::nat_tests), unfolding(crate::specs::Take::reserved, numbers::specs::Words::fits, book::specs::Entries::on_side, numbers::specs::Choice::pick))]
-    fn reserve(self, side: Side, qty: u64) -> Option<Lots>
+    fn reserve(mut self, side: Side, qty: u64) -> Option<Lots>
         ensures { result ≡ reserved self side qty }
     {
         let live = self.buy.checked_add(self.sell)?;
         live.checked_add(qty)?;
-        Some(match side {
-            Side::Buy => Lots {
-                buy: self.buy + qty,
-                ..self
-            },
-            Side::Sell => Lots {
-                sell: self.sell + qty,
-                ..self
-            },
-        })
+        match side {
+            Side::Buy => self.buy += qty,
+            Side::Sell => self.sell += qty,
+        }
+        Some(self)
     }
 }
 
@@ -185,7 +180,7 @@ impl<'a> Reading<'a> {
         Ok(())
     }
 
-    // The row's words are stored behind those of the other rows: at one place, where `as_chunks_mut` would part all words for it.
+    // The row's words are stored behind those of the other rows: at one place; by `as_chunks_mut` it would be shorter, but std does not say of it what the words end as.
     #[tactic(auto, using(std::proofs::lemmas::Bool::Decides::nat_tests), unfolding(crate::specs::Take::take_row, numbers::specs::Choice::pick))]
     fn take_row(&mut self, n: u64, tick: KernelTick) -> Result<(), BadLine>
         ensures { Takes result self.old self.new (take_row n tick (reading_of self.old)) }

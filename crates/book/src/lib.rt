@@ -18,7 +18,7 @@ pub enum Side {
     Sell,
 }
 
-// The paper's number, beside its case here and in the others of this kind: as a discriminant it would be part of the type, and those with a case that holds something, as a status that holds a halt, could not be cast.
+// The paper's number, beside its case here and in the others of this kind: as a discriminant it would be part of the type, and one of which a case holds something, as `runtext::Fault`, could not be cast.
 impl From<Side> for u64 {
     ghost from_gives = { λ side n. n ≡ side_number side };
 

@@ -13,6 +13,7 @@ use lib.ListN.{length, get_or, set, take, drop, length-drop}
 use lib.Seq.{take_all, take-suc-set}
 use Rattle.std.proofs.lemmas.Bool.Decides.{nat_tests}
 use Rattle.numbers.specs.Choice.{pick, on_some}
+use Rattle.lists.proofs.Cases.{pick_case}
 use Rattle.text.specs.Fields.{number}
 use Rattle.text.proofs.NumberLaws.{number_empty}
 use Rattle.runline.specs.Numbers.{numbers, only_numbers}
@@ -72,14 +73,9 @@ none_left : (n : ℕ) (fs : List (List ℕ)) (w : List ℕ) → Some w ≡ numbe
 none_left n fs w e = let z : n ≤ length fs = as-many n fs w e in rw length-drop (grind (arith, nat_tests))
 
 module _ (n : ℕ) (fs : List (List ℕ)) where
-  either : (t : Bool) → ◌≡◌ {A = Option (List ℕ)} None (pick t None None)
-  unfolding pick
-  either true = refl
-  either false = refl
-
   pub only_none : None ≡ numbers n fs → None ≡ only_numbers n fs
   unfolding only_numbers
-  only_none e = rw (← e) (either (eqb (length fs) n))
+  only_none e = rw (← e) (pick_case (λ (o : Option (List ℕ)). None ≡ o) _ _ _ (λ _. refl) (λ _. refl))
 
   chosen : (t : Bool) (w : List ℕ) → then_some t w ≡ pick t (Some w) None
   unfolding pick

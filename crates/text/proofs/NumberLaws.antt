@@ -1,10 +1,10 @@
 -- The number that digits write, read from the front. Assumes nothing.
 use Rattle.std.specs.Prelude.{Option, Some, None}
+use Rattle.std.specs.Char.{digit_value}
 use Prim.Native.Nat.{ℕ, suc, ◌+◌, ◌-◌, ◌*◌, ◌≤◌, ◌<◌}
-use mathlib.Core.Path.{◌≡◌, refl, sym}
-use mathlib.Core.Bool.{Bool, true, false}
+use mathlib.Core.Path.{◌≡◌, ◌∙◌}
+use mathlib.Core.Bool.{true, false}
 use mathlib.Core.List.{List, [], ◌∷◌}
-use mathlib.Core.Logic.{◌⊎◌, ⊎_elim}
 use native.Mathlib.Numerals.{add-one}
 use lib.Dec.{eqb}
 use native.Mathlib.Omega.{arith}
@@ -15,13 +15,18 @@ use Rattle.numbers.specs.Choice.{pick}
 use Rattle.numbers.specs.Words.{fits, fitting}
 use Rattle.text.specs.Fields.{is_digit, are_digits, value, number}
 
-pub digit_within : (b : ℕ) → 48 ≤ b → b ≤ 57 → is_digit b ≡ true
-unfolding pick
-digit_within b h k = rw (le-ltb b 48 h, lt-ltb b 58 (omega arith))
+-- a digit, in std's words
+module _ (b : ℕ) where
+  digit_is : digit_value b < 10 → is_digit b ≡ true
+  unfolding pick
+  digit_is h = grind arith
 
-pub digit_outside : (b : ℕ) → (b < 48) ⊎ (57 < b) → is_digit b ≡ false
-unfolding pick
-digit_outside b h = ⊎_elim (λ k. rw (lt-ltb b 48 k)) (λ k. rw (le-ltb b 48 (omega arith), le-ltb b 58 (omega arith))) h
+  digit_is_not : ¬ (digit_value b < 10) → is_digit b ≡ false
+  unfolding pick
+  digit_is_not h = grind arith
+
+  digit_worth : digit_value b < 10 → digit_value b ≡ b - 48
+  digit_worth h = grind arith
 
 -- the number that n and then these bytes write, if they are digits
 unfoldable pub read_on : ℕ → List ℕ → Option ℕ
@@ -32,11 +37,6 @@ value_least : (n : ℕ) (l : List ℕ) → n ≤ value n l
 unfolding value
 value_least n [] = omega arith
 value_least n (b ∷ l) = omega (arith, value_least (n * 10 + (b - 48)) l)
-
-either : (t : Bool) → ◌≡◌ {A = Option ℕ} (pick t None None) None
-unfolding pick
-either true = refl
-either false = refl
 
 pub number_empty : (f : List ℕ) → eqb (length f) 0 ≡ true → number f ≡ None
 unfolding number pick
@@ -56,25 +56,17 @@ module _ (n : ℕ) (f : List ℕ) (i : ℕ) (h : i < length f) where
   unfolding read_on value fitting fits pick
   read_over k =
       let z : 18446744073709551616 ≤ value (n * 10 + (get_or f i 0 - 48)) (drop (suc i) f) = omega (arith, value_least (n * 10 + (get_or f i 0 - 48)) (drop (suc i) f)) in
-      rw (drop-cons f i 0 h, le-ltb (value (n * 10 + (get_or f i 0 - 48)) (drop (suc i) f)) 18446744073709551616 z) (sym (either (are_digits (get_or f i 0 ∷ drop (suc i) f))))
+      rw (drop-cons f i 0 h, le-ltb (value (n * 10 + (get_or f i 0 - 48)) (drop (suc i) f)) 18446744073709551616 z) (grind arith)
 
-  pub read_other : None ≡ pick (is_digit (get_or f i 0)) (Some (get_or f i 0 - 48)) None → None ≡ read_on n (drop i f)
+  pub read_other : ¬ (digit_value (get_or f i 0) < 10) → None ≡ read_on n (drop i f)
   unfolding read_on are_digits pick
-  read_other e = rw (drop-cons f i 0 h) (cases (is_digit (get_or f i 0)) refl e)
-    where
-      cases : (t : Bool) → is_digit (get_or f i 0) ≡ t → None ≡ pick (is_digit (get_or f i 0)) (Some (get_or f i 0 - 48)) None → None ≡ read_on n (get_or f i 0 ∷ drop (suc i) f)
-      cases true g e = cc (rw g at e)
-      cases false g e = rw g
+  read_other e = rw (drop-cons f i 0 h, digit_is_not (get_or f i 0) e)
 
-  pub read_more : (d : ℕ) → Some d ≡ pick (is_digit (get_or f i 0)) (Some (get_or f i 0 - 48)) None → (d ≡ get_or f i 0 - 48) × (read_on n (drop i f) ≡ read_on (n * 10 + d) (drop (i + 1) f))
+  pub read_more : (d : ℕ) → (digit_value (get_or f i 0) < 10) × (d ≡ digit_value (get_or f i 0)) → (d ≡ get_or f i 0 - 48) × (read_on n (drop i f) ≡ read_on (n * 10 + d) (drop (i + 1) f))
   unfolding read_on are_digits value pick
-  read_more d e = cases (is_digit (get_or f i 0)) refl e
-    where
-      cases : (t : Bool) → is_digit (get_or f i 0) ≡ t → Some d ≡ pick (is_digit (get_or f i 0)) (Some (get_or f i 0 - 48)) None → (d ≡ get_or f i 0 - 48) × (read_on n (drop i f) ≡ read_on (n * 10 + d) (drop (i + 1) f))
-      cases true g e =
-          let z : d ≡ get_or f i 0 - 48 = cc (rw g at e) in
-          (z, rw (add-one, drop-cons f i 0 h, g, z))
-      cases false g e = cc (rw g at e)
+  read_more d e =
+      let z : d ≡ get_or f i 0 - 48 = e.1 ∙ digit_worth (get_or f i 0) e.0 in
+      (z, rw (add-one, drop-cons f i 0 h, digit_is (get_or f i 0) e.0, z))
 
 pub read_all : (n : ℕ) (f : List ℕ) (i : ℕ) → length f ≤ i → n < 18446744073709551616 → read_on n (drop i f) ≡ Some n
 unfolding read_on are_digits value fitting fits pick

@@ -4,9 +4,8 @@
 ghost use Rattle.std.specs.Prelude.{◌≡◌, ◌==◌, ◌-◌, [], eqb, length, drop, get_or, slice_get};
 ghost use Rattle.std.specs.List.{position};
 ghost use Rattle.std.specs.Option.{option_copied};
-ghost use Rattle.numbers.specs.Choice.{pick};
 ghost use Rattle.text.specs.Cursor.{left};
-ghost use Rattle.text.specs.Fields.{pieces, parted_once, fields, is_digit, number};
+ghost use Rattle.text.specs.Fields.{pieces, parted_once, fields, number};
 
 // A number has no more digits, leading zeros among them.
 const MOST_DIGITS: usize = 20;
@@ -26,17 +25,7 @@ pub fn split_once(s: &[u8], stop: u8) -> Option<(&[u8], &[u8])>
     Some((&s[..at], &s[at + 1..]))
 }
 
-// What a digit is worth: by hand, since `to_digit` is of a `char`.
-fn digit(b: u8) -> Option<u64>
-    ensures { result ≡ pick (is_digit b) (Some (b - 48)) None }
-{
-    if !b.is_ascii_digit() {
-        return None;
-    }
-    Some(u64::from(b - b'0'))
-}
-
-// The number that a field writes: 1 to 20 digits, within 64 bits. std's `parse` takes a plus sign and any number of zeros.
+// The number that a field writes: 1 to 20 digits, within 64 bits. By hand: std's `parse` costs 443 instructions a quiet row (docs/BENCHMARKS.md) more, a quarter of it, most of them in `from_utf8`.
 pub fn number(field: &[u8]) -> Option<u64>
     ensures { result ≡ number field.now }
 {
@@ -45,7 +34,8 @@ pub fn number(field: &[u8]) -> Option<u64>
     }
     let mut n = 0u64;
     for b in field {
-        n = n.checked_mul(10)?.checked_add(digit(*b)?)?;
+        let digit = char::from(*b).to_digit(10)?;
+        n = n.checked_mul(10)?.checked_add(u64::from(digit))?;
     }
     Some(n)
 }

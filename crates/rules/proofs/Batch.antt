@@ -3,7 +3,7 @@ use Prim.Native.Nat.{ℕ, zero, suc}
 use mathlib.Core.Bool.{Bool, true, false}
 use mathlib.Core.List.{List, [], ◌++◌}
 use mathlib.Core.Path.{◌≡◌, refl}
-use Rattle.numbers.specs.Choice.{pick}
+use Rattle.lists.proofs.Cases.{pick_both}
 use Rattle.book.specs.declared.config.Config.{Config}
 use Rattle.state.specs.declared.KernelEvent.{KernelEvent}
 use Rattle.state.specs.declared.KernelState.{KernelState}
@@ -15,18 +15,12 @@ pub run_none : (c : Config) (rows : List ℕ) (records : ℕ) (s : KernelState) 
 unfolding run_from
 run_none c rows records s = refl
 
--- another call follows, or none
-either : (b : Bool) (x y : Batch) (cs : List Call) (t : KernelState) → x.state ≡ state_after cs t → y.state ≡ t → (pick b x y).state ≡ state_after (pick b cs []) t
-unfolding pick state_after
-either true x y cs t h g = h
-either false x y cs t h g = g
-
 from-calls : (c : Config) (rows : List ℕ) (records k : ℕ) (es : List KernelEvent) (s : KernelState) → (run_from c rows records k es s).state ≡ state_after (calls_from c rows records k es s) s
 unfolding run_from calls_from state_after
 from-calls c rows records zero es s = refl
 from-calls c rows records (suc k) es s =
     let a : Answer = advance c rows s in
-    either (goes_on records es a) _ _ _ _ (from-calls c rows records k (es ++ a.events) (pass a.state).state) refl
+    pick_both (λ (x : Batch) (cs : List Call). x.state ≡ state_after cs a.state) (goes_on records es a) _ _ _ _ (λ _. from-calls c rows records k (es ++ a.events) (pass a.state).state) (λ _. refl)
 
 pub run-calls : (c : Config) (rows : List ℕ) (records k : ℕ) (s : KernelState) → (run c rows records k s).state ≡ state_after (calls_from c rows records k [] s) s
 run-calls c rows records k s = from-calls c rows records k [] s

@@ -7,7 +7,6 @@ use mathlib.Core.Path.{◌≡◌, refl}
 use native.Mathlib.Omega.{arith}
 use lib.ListN.{length, length-append}
 use Rattle.numbers.specs.Choice.{pick, on_some}
-use Rattle.numbers.specs.declared.position.Position.{Position}
 use Rattle.lists.specs.Lists.{put_at, taken_at}
 use Rattle.lists.proofs.Cases.{pick_case, some_case}
 use Rattle.lists.proofs.Sums.{Added, Took, put_case, take_case}
@@ -57,11 +56,6 @@ module _ {H : KernelState → Type 0} {P : ℕ → KernelState → Type 0} {n : 
 
   pub some_in : {A : Type 0} (o : Option A) {k : A → Run} {z : Run} → ((x : A) → Within H n P (k x)) → Within H n P z → Within H n P (on_some o k z)
   some_in o h g = some_case (Within H n P) o _ _ (λ x _. h x) (λ _. g)
-
-  pub moved_in : (w : Option Position) {k : Position → Run} {z : Run} → ((q : Position) → Within H n P (k q)) → Within H n P z → Within H n P (on_some w k z)
-  unfolding on_some
-  moved_in None h g = g
-  moved_in (Some q) h g = h q
 
   pub taking_in : {A : Type 0} {size : ℕ} {cap : ℕ} {d : A} {i : ℕ} {r : Arr A size} {k : A → Arr A size → Run} {z : Run}
       → ((x : A) (l : Arr A size) → Took cap d i r x l → Within H n P (k x l)) → ((r.count ≤ cap → r.count ≤ i) → Within H n P z) → Within H n P (taking (taken_at cap d i r) k z)

@@ -25,7 +25,7 @@ use Rattle.rules.specs.Run.{ran_to, raised, and_then}
 use Rattle.rules.specs.Report.{stamp, delayed, push_delivery, reported, queue_delivery, report_on}
 use Rattle.rules.specs.Messages.{release, await, await_marked, book, schedule, remove_expiry, schedule_expiry, accept, reject, activate, activation, cancel_booked, on_activation, cancel_activation, cancel_awaiting, cancel, expire_booked, expire, acts, apply_next_msg}
 use Rattle.rules.specs.Delivery.{count_fill, move_agent, count_reject, deliver_next}
-use Rattle.rules.proofs.Bounded.{Within, ran_in, raised_in, halt_in, pick_in, some_in, moved_in, taking_in, putting_in, then_in, map_in}
+use Rattle.rules.proofs.Bounded.{Within, ran_in, raised_in, halt_in, pick_in, some_in, taking_in, putting_in, then_in, map_in}
 use Rattle.book.specs.declared.FillRec.{FillRec}
 use Rattle.msgs.specs.Rows.{Msgs}
 use Rattle.lists.specs.declared.Arr.{Arr}
@@ -116,7 +116,7 @@ module _ {f : MsgKind → ℕ} {k : Control} {h o w : ℕ} where
   move_in : {e d j n : ℕ} (y : Option FillRec) (s : KernelState) → Stands f k h o w e d j n s → Within (Stops f k w) n (Stands f k h o w e d j) (move_agent y s)
   unfolding count_fill
   move_in None s g = ran_in g
-  move_in (Some r) s g = moved_in _ (λ q. some_in _ (λ _. ran_in g) (halt_in (stops g))) (halt_in (stops g))
+  move_in (Some r) s g = some_in _ (λ q. some_in _ (λ _. ran_in g) (halt_in (stops g))) (halt_in (stops g))
 
   count_in : {e d j n : ℕ} (r : ReportRec) (s : KernelState) → Stands f k h o w e d j n s → Within (Stops f k w) n (Stands f k h o w e d j) (count_reject r s)
   unfolding count_reject

@@ -1,6 +1,5 @@
 -- A batch of calls: with no pass it is `advance`, and its state is one that a list of calls leads to, so that what is conserved over every list of calls is conserved over it. Assumes nothing.
 use Prim.Native.Nat.{ℕ, zero, suc}
-use mathlib.Core.Bool.{Bool, true, false}
 use mathlib.Core.List.{List, [], ◌++◌}
 use mathlib.Core.Path.{◌≡◌, refl}
 use Rattle.lists.proofs.Cases.{pick_both}

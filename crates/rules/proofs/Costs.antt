@@ -3,7 +3,7 @@
 use Rattle.std.specs.Prelude.{Option, Some, None}
 use Prim.Native.Nat.{ℕ, ◌+◌, ◌-◌, ◌*◌, ◌≤◌, ◌<◌}
 use mathlib.Core.Bool.{false}
-use mathlib.Core.Path.{◌≡◌, ap}
+use mathlib.Core.Path.{◌≡◌, refl, ap}
 use native.Mathlib.Omega.{arith}
 use Rattle.lists.specs.Lists.{below, total}
 use Rattle.lists.proofs.Cases.{some_case}
@@ -60,6 +60,10 @@ pub record StopsBy (f : MsgKind → ℕ) (k : Control) (w : ℕ) (control : Cont
 
 abbrev pub Stops : (MsgKind → ℕ) → Control → ℕ → KernelState → Type 0
 Stops f k w s = StopsBy f k w s.control s.msgs
+
+-- what is so of a state by itself, of j events
+pub as_is : {f : MsgKind → ℕ} (j : ℕ) (s : KernelState) → Stands f s.control (8 + s.orders.count) s.observed.count (weighed f s.msgs) 0 s.deliveries.count j j s
+as_is j s = record { at = refl; room = omega arith; few = omega arith; seen = refl; light = omega arith; held = omega arith; spare = omega arith }
 
 module _ {f : MsgKind → ℕ} {k : Control} {h o w : ℕ} where
   -- less is known

@@ -1,13 +1,14 @@
 -- What a row, its end and the end of data cost, and what a turn of the phases leaves of the control. Assumes nothing.
 use Prim.Native.Nat.{ℕ, zero, suc, ◌+◌, ◌-◌, ◌*◌, ◌/◌, ◌≤◌, ◌<◌}
-use mathlib.Core.List.{List, map}
+use mathlib.Core.List.{List, [], map}
 use mathlib.Core.Path.{◌≡◌, refl, ap}
 use native.Mathlib.Omega.{arith}
 use lib.Dec.{ltb, leb}
-use lib.ListN.{length, length-append, length-map}
+use lib.ListN.{length, length-append, length-map, length-take}
 use borrow.Author.Tests.{ltb-true}
-use Rattle.lists.specs.Lists.{live, emptied, total}
+use Rattle.lists.specs.Lists.{Put, below, live, store_at, emptied, total}
 use Rattle.lists.proofs.Cases.{pick_case, some_case}
+use Rattle.lists.proofs.Sums.{store_case}
 use Rattle.state.specs.With.{with_orders, control_phase}
 use Rattle.book.specs.declared.VenueMsg.{VenueMsg}
 use Rattle.book.specs.declared.VenueOrder.{VenueOrder}
@@ -24,11 +25,13 @@ use Rattle.rules.specs.Delivery.{deliver_all, dropped_event, empty_queues, close
 use Rattle.rules.specs.Events.{truncated}
 use Rattle.rules.specs.FewEvents.{raisable_kind, msgs_events}
 use Rattle.rules.specs.Phases.{queue_observation, match_phase, before_match, settle_row, settle, to_row, next_row, obs_queued}
-use Rattle.rules.proofs.Fewer.{stored-few, live-few}
 use Rattle.rules.proofs.Bounded.{Within, ran_in, halted_in, halt_in, ended_in, pick_in, some_in, taking_in, putting_in, ran_out, map_in, then_in}
 use Rattle.rules.proofs.Costs.{Stands, Stops, less, stops, raise_in, stamp_in, report_in, await_in, removed_in, fewer_in}
 use Rattle.rules.proofs.Paid.{Paid, stops_on, opened, closed, pays_less, raise_paid, deliver_paid, walk_in, own}
 use Rattle.lists.specs.declared.Arr.{Arr}
+
+stored-few : (i h : ℕ) (o : VenueOrder) (r : Arr VenueOrder 8) → r.count ≤ h → (store_at 8 i o r).list.count ≤ h
+stored-few i h o r w = store_case 8 (λ (q : Put VenueOrder 8). q.list.count ≤ h) i o r (λ _ _. w) w
 
 module _ {k : Control} {h o w : ℕ} where
   -- ---- a row over the orders: a fill raises two events, its own and its report, and sends a delivery
@@ -117,6 +120,10 @@ module _ {k : Control} {h o w : ℕ} where
   unfolding deliver_all
   all_in j zero s g = ran_in g
   all_in j (suc l) s g = then_in (deliver_paid j s g) (λ m t y. all_in j l t y)
+
+live-few : {A : Type 0} {size : ℕ} (most : ℕ) (r : Arr A size) → length (live most r) ≤ r.count
+unfolding live
+live-few most r = pick_case (λ l. length l ≤ r.count) (leb r.count most) (below r) [] (λ _. omega (arith, length-take r.count r.slots)) (λ _. omega arith)
 
 -- messages that are dropped raise nothing more
 emptied-stops : {k : Control} {w : ℕ} (s : KernelState) → Stops raisable_kind k w s → Stops raisable_kind k w (empty_queues s)

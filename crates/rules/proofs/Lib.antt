@@ -1,13 +1,12 @@
 pub mod Loop
-pub mod Within
 pub mod Bounded
 pub mod Costs
-pub mod CostsOfRow
 pub mod Falls
 pub mod Paid
+pub mod CostsOfRow
 pub mod Fewer
-pub mod EventsBound
 pub mod HowFar
+pub mod EventsBound
 pub mod Farthest
 pub mod RowsRead
 pub mod Cases

@@ -15,7 +15,7 @@ use Rattle.rules.specs.Events.{pop_observation, Class, venue, delivery, observat
 use Rattle.rules.specs.FewEvents.{raisable_kind, msgs_events, queued_events}
 use Rattle.rules.proofs.Loop.{run_of}
 use Rattle.rules.proofs.Bounded.{Within, ran_in, raised_in, left_in, pick_in, taking_in, map_in, iter_in}
-use Rattle.rules.proofs.Costs.{Stands, Stops, less, stops, deliver_in, raises, adds, raises-most, Acted, acted, message_in}
+use Rattle.rules.proofs.Costs.{Stands, Stops, as_is, less, stops, deliver_in, raises, adds, raises-most, Acted, acted, message_in}
 use Rattle.rules.proofs.Falls.{Due, NextDue, next-ok}
 
 -- what the queues can raise is paid for, and j events more; the deliveries and the messages are those of the state itself
@@ -95,4 +95,4 @@ module _ {k : Control} {h o w : ℕ} where
 
 -- what a state can pay by itself
 pub own : (j : ℕ) (s : KernelState) → Paid s.control (8 + s.orders.count) s.observed.count (msgs_events s.msgs) j (queued_events s + j) s
-own j s = record { at = refl; room = omega arith; few = omega arith; seen = refl; light = omega arith; held = omega arith; spare = omega arith }
+own j s = as_is (queued_events s + j) s

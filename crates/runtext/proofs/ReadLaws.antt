@@ -1,18 +1,23 @@
 -- The steps of reading a run file. Assumes nothing.
 use Rattle.std.specs.Prelude.{Option, Some, None, Result, Ok, Err}
+use Rattle.std.specs.List.{All, IsFirstMatchOrLen}
+use Rattle.std.specs.Option.{ok_or}
 use Rattle.std.specs.Result.{result_or}
-use Prim.Native.Nat.{ℕ, ◌+◌, ◌≤◌, ◌<◌}
-use mathlib.Core.Path.{◌≡◌, refl, sym}
-use mathlib.Core.Bool.{true, false, ◌&&◌}
-use mathlib.Core.List.{List, [], ◌∷◌}
+use Prim.Native.Nat.{ℕ, ◌+◌, ◌≤◌, ◌<◌, min}
+use mathlib.Core.Path.{◌≡◌, refl, sym, ap, ◌∙◌}
+use mathlib.Core.Logic.{◌≢◌, ⊎_elim}
+use mathlib.Core.Bool.{false}
+use mathlib.Core.List.{List, [], ◌∷◌, ◌++◌}
 use native.Mathlib.Omega.{arith}
-use lib.ListN.{length}
-use lib.Dec.{eqb, leb}
-use Rattle.std.proofs.lemmas.Bool.Decides.{nat_tests}
-use borrow.Author.Tests.{le-leb, lt-leb}
+use lib.ListN.{length, take}
+use lib.Dec.{eqb}
+use Rattle.std.proofs.lemmas.Bool.{cases_lt}
+use Rattle.std.proofs.lemmas.Grind.{common_steps}
+use Rattle.std.proofs.lemmas.List.{take_more}
+use borrow.Author.Tests.{le-leb, lt-leb, le-ltb, lt-ltb, eqb-true}
 use Rattle.numbers.specs.Choice.{pick, on_some}
-use Rattle.text.specs.Fields.{parted, parted_once}
-use Rattle.text.proofs.PartedLaws.{parted_some, once_none, once_some}
+use Rattle.text.specs.Fields.{parted}
+use Rattle.text.proofs.PartedLaws.{parted_some, Other, parted_whole, parted_at}
 use Rattle.runtake.specs.Take.{Reading, reading_of, Takes, take_text}
 use Rattle.runtake.specs.declared.BadLine.{BadLine}
 use Rattle.runtake.specs.declared.Reading as code
@@ -27,31 +32,47 @@ parts_there l = go (parted 10 l) (parted_some 10 l)
     go [] h = absurd (omega arith)
     go (p ∷ ps) h = refl
 
-closing_is : (n : ℕ) (r : Reading) (l : List ℕ) → closing n r l ≡ pick (eqb (length l) 0 && leb 2 n) (good r) (bad_at (n + 1) r)
-unfolding closing pick
-closing_is n r [] = grind (arith, nat_tests)
-closing_is n r (x ∷ l) = grind (arith, nat_tests)
+-- ---- a piece of `split_inclusive` at the text's newlines, which is up to the first newline or to the end
+module _ (piece behind rest : List ℕ) (i : ℕ) (cut : rest ≡ piece ++ behind) (len : length piece ≡ min (i + 1) (length rest)) (first : IsFirstMatchOrLen (λ b. eqb b 10) rest i) where
+  -- it is a line and its newline
+  pub piece_ended : (line : List ℕ) → piece ≡ line ++ 10 ∷ [] → parted 10 rest ≡ line ∷ parted 10 behind
+  piece_ended line e =
+      let same : rest ≡ line ++ 10 ∷ behind = grind (arith, common_steps) in
+      let clean : All (Other 10) line = λ k d l. let h = first.0 k d (omega arith) (grind (arith, common_steps)) in grind (arith, common_steps) in
+      rw same (parted_at 10 line behind clean)
 
-module _ (n : ℕ) (r : Reading) (rest : List ℕ) where
-  -- what stands behind the last newline
-  module _ (e : None ≡ parted_once 10 rest) where
-    last_part : read_parts n r (parted 10 rest) ≡ pick (eqb (length rest) 0 && leb 2 n) (good r) (bad_at (n + 1) r)
-    unfolding read_parts pick
-    last_part = rw (once_none 10 rest (sym e)) (closing_is n r rest)
+  -- it is the text's last line, which has none
+  pub piece_unended : ((front : List ℕ) → piece ≢ front ++ 10 ∷ []) → parted 10 rest ≡ rest ∷ []
+  piece_unended e = ⊎_elim
+      (λ l.
+      let here : take (i + 1) rest ≡ piece = grind (arith, common_steps) in
+      absurd (e (take i rest) (sym here ∙ take_more rest i 0 l ∙ ap (λ b. take i rest ++ b ∷ []) (eqb-true _ 10 (first.1 l 0)))))
+      (λ l. parted_whole 10 rest (λ k d h. first.0 k d (omega arith) (omega arith)))
+      (cases_lt i (length rest))
 
-    pub whole : true ≡ (eqb (length rest) 0 && leb 2 n) → read_parts n r (parted 10 rest) ≡ good r
-    unfolding pick
-    whole f = rw (last_part, ← f)
+module _ (n : ℕ) (r : Reading) where
+  -- no text is left
+  pub too_few : (rest : List ℕ) → length rest ≡ 0 → n < 2 → read_parts n r (parted 10 rest) ≡ bad_at (n + 1) r
+  unfolding read_parts closing parted pick
+  too_few [] z h = rw (lt-ltb n 2 h)
+  too_few (x ∷ l) z h = absurd (omega arith)
 
-    pub not_whole : false ≡ (eqb (length rest) 0 && leb 2 n) → read_parts n r (parted 10 rest) ≡ bad_at (n + 1) r
-    unfolding pick
-    not_whole f = rw (last_part, ← f)
+  pub whole : (rest : List ℕ) → length rest ≡ 0 → 2 ≤ n → read_parts n r (parted 10 rest) ≡ good r
+  unfolding read_parts closing parted pick
+  whole [] z h = rw (le-ltb n 2 h)
+  whole (x ∷ l) z h = absurd (omega arith)
+
+  -- no newline is left
+  pub unended : (rest : List ℕ) → 0 < length rest → parted 10 rest ≡ rest ∷ [] → read_parts n r (parted 10 rest) ≡ bad_at (n + 1) r
+  unfolding read_parts closing pick
+  unended [] h e = absurd (omega arith)
+  unended (x ∷ l) h e = rw e
 
   -- a line and what stands behind it
-  module _ (line behind : List ℕ) (e : Some (line, behind) ≡ parted_once 10 rest) where
+  module _ (line behind rest : List ℕ) (e : parted 10 rest ≡ line ∷ parted 10 behind) where
     next_part : read_parts n r (parted 10 rest) ≡ on_some (take_text n line r) (λ t. read_parts (n + 1) t (parted 10 behind)) (bad_at (n + 1) r)
     unfolding read_parts pick
-    next_part = rw (once_some 10 rest line behind (sym e), parts_there behind)
+    next_part = rw (e, parts_there behind)
 
     pub line_taken : (t : Reading) → Some t ≡ take_text n line r → read_parts n r (parted 10 rest) ≡ read_parts (n + 1) t (parted 10 behind)
     unfolding on_some
@@ -62,6 +83,10 @@ module _ (n : ℕ) (r : Reading) (rest : List ℕ) where
     line_bad f = rw (next_part, ← f)
 
 -- ---- how a line ended, with the fault that it is where it is bad
+pub no_line : {A : Type 0} (line : Option A) (fault f : Fault) → Err f ≡ ok_or line fault → f ≡ fault
+no_line None fault f e = cc
+no_line (Some x) fault f e = different cc
+
 pub is_taken : (result : Result (Unit {0}) BadLine) (old new : code.Reading) (fault : Fault) {v : Unit {0}} {o : Option Reading} → Takes result old new o → Ok v ≡ result_or result (Err fault) → Some (reading_of new) ≡ o
 is_taken (Ok u) old new fault t e = t.0
 is_taken (Err b) old new fault t e = different cc

@@ -9,7 +9,6 @@ use book::config::Config;
 use runline::line_of;
 use runtake::{BadLine, HEAD_LINES, MOST_WORDS, Reading};
 use state::{Control, GateState, KernelState, Phase, Seqs};
-use text::split_once;
 
 // A run file has no more bytes.
 pub const MOST_BYTES: usize = 65536;
@@ -106,15 +105,7 @@ fn take_text(reading: &mut Reading, n: u64, line: &[u8]) -> Result<(), BadLine>
     reading.take_line(n, line_of(line).ok_or(BadLine)?)
 }
 
-// Whether a file with this behind its last newline, and n lines before, is whole: a line that is not ended is bad, and so is an absent `c` or `f`.
-#[tactic(auto, using(std::proofs::lemmas::Bool::Decides::nat_tests))]
-fn is_whole(rest: &[u8], n: u64) -> bool
-    ensures { result ≡ (eqb (length rest.now) 0 && leb 2 n) }
-{
-    rest.is_empty() && n >= HEAD_LINES
-}
-
-// The lines of the text, up to the first bad one. By the text that is left, and not by std's `split`: what stands behind the last newline is no line, and is to be empty.
+// The lines of the text, up to the first bad one. A piece without a newline is a last line that is not ended, which is bad. So is an absent `c` or `f`.
 fn read_lines(reading: &mut Reading, text: &[u8]) -> Result<(), Fault>
     ensures reads { lines_read result (reading_of reading.new) ≡ read_lines text.now (reading_of reading.old) }
     ensures lent { reading.new.words.ghost_name ≡ reading.old.words.ghost_name }
@@ -122,14 +113,13 @@ fn read_lines(reading: &mut Reading, text: &[u8]) -> Result<(), Fault>
     if text.len() > MOST_BYTES {
         return Err(Fault::TooLong);
     }
-    let mut rest = text;
     let mut n = 0;
-    while let Some((line, behind)) = split_once(rest, b'\n') {
+    for piece in text.split_inclusive(|b| *b == b'\n') {
+        let line = piece.strip_suffix(b"\n").ok_or(Fault::Line(n + 1))?;
         take_text(reading, n, line).or(Err(Fault::Line(n + 1)))?;
         n += 1;
-        rest = behind;
     }
-    if !is_whole(rest, n) {
+    if n < HEAD_LINES {
         return Err(Fault::Line(n + 1));
     }
     Ok(())

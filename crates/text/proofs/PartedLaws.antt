@@ -1,25 +1,21 @@
 -- A list parted at a byte: at its first alone, and at each. Assumes nothing.
 use Rattle.std.specs.Prelude.{Option, Some, None}
 use Rattle.std.specs.Option.{option_map}
-use Rattle.std.specs.List.{prefix_len, position}
+use Rattle.std.specs.List.{prefix_len, position, All}
+use Rattle.std.proofs.lemmas.List.Elements.{All-head, All-tail}
 use Prim.Native.Nat.{ℕ, suc, ◌+◌, ◌-◌, ◌≤◌, ◌<◌}
 use mathlib.Core.Path.{◌≡◌, refl, sym, ap, ◌∙◌}
 use mathlib.Core.Bool.{Bool, true, false, not}
-use mathlib.Core.List.{List, [], ◌∷◌}
+use mathlib.Core.List.{List, [], ◌∷◌, ◌++◌}
 use native.Mathlib.Nat.{not-suc-le-zero}
 use native.Mathlib.Numerals.{add-one}
 use native.Mathlib.Omega.{arith}
 use lib.Dec.{eqb, ltb}
 use lib.ListN.{length, take, drop, length-drop}
 use lib.Seq.{take_all}
-use borrow.Author.Tests.{ltb-true, ltb-false}
+use borrow.Author.Tests.{ltb-true, ltb-false, eq-eqb}
 use Rattle.numbers.specs.Choice.{pick}
 use Rattle.text.specs.Fields.{is, joined, parted, parted_once}
-
-seconds : (a b c d : List ℕ) → ◌≡◌ {A = Option (List ℕ × List ℕ)} (Some (a, b)) (Some (c, d)) → b ≡ d
-seconds a b c d e =
-    let z : ◌≡◌ {A = List ℕ × List ℕ} (a, b) (c, d) = cc in
-    ap (λ (p : List ℕ × List ℕ). p.1) z
 
 module _ (b : ℕ) where
   -- how many bytes stand before the first b
@@ -97,25 +93,6 @@ module _ (b : ℕ) where
   unfolding by_first
   once_some l p r e = parted_by_first l ∙ ap (by_first l) e
 
-  -- what stands behind it is shorter
-  pub once_shorter : (l p r : List ℕ) → parted_once b l ≡ Some (p, r) → length r < length l
-  unfolding parted_once pick
-  once_shorter [] p r e = cc
-  once_shorter (x ∷ l) p r e = cases (is b x) refl e (once_shorter l)
-    where
-      behind : (o : Option (List ℕ × List ℕ)) → parted_once b l ≡ o → option_map {U = List ℕ × List ℕ} (λ p. (x ∷ p.0, p.1)) o ≡ Some (p, r)
-          → ((p r : List ℕ) → parted_once b l ≡ Some (p, r) → length r < length l) → length r < length (x ∷ l)
-      behind None e f k = cc
-      behind (Some q) e f k =
-          let z : q.1 ≡ r = seconds (x ∷ q.0) q.1 p r f in
-          rw (← z) (omega (arith, k q.0 q.1 e))
-
-      cases : (t : Bool) → is b x ≡ t → parted_once b (x ∷ l) ≡ Some (p, r) → ((p r : List ℕ) → parted_once b l ≡ Some (p, r) → length r < length l) → length r < length (x ∷ l)
-      cases true f e k =
-          let z : l ≡ r = seconds [] l p r (rw f at e) in
-          rw (← z) (omega arith)
-      cases false f e k = behind (parted_once b l) refl (rw f at e) k
-
   -- there is a part
   pub parted_some : (l : List ℕ) → 0 < length (parted b l)
   unfolding by_first
@@ -124,3 +101,17 @@ module _ (b : ℕ) where
       cases : (o : Option (List ℕ × List ℕ)) → 0 < length (by_first l o)
       cases None = omega arith
       cases (Some p) = omega arith
+
+  -- ---- the parts, by the bytes that are not b
+  abbrev pub Other : ℕ → Type 0
+  Other x = eqb x b ≡ false
+
+  pub parted_whole : (l : List ℕ) → All Other l → parted b l ≡ l ∷ []
+  unfolding parted pick
+  parted_whole [] h = refl
+  parted_whole (x ∷ l) h = rw (All-head Other x l h, parted_whole l (All-tail Other x l h))
+
+  pub parted_at : (p r : List ℕ) → All Other p → parted b (p ++ b ∷ r) ≡ p ∷ parted b r
+  unfolding parted pick
+  parted_at [] r h = rw (eq-eqb b b refl)
+  parted_at (x ∷ p) r h = rw (All-head Other x p h, parted_at p r (All-tail Other x p h))

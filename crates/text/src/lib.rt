@@ -18,7 +18,7 @@ fn place_of(s: &[u8], stop: u8) -> Option<usize>
 }
 
 // What stands before the first `stop` and what stands behind it: none where there is no `stop`. It is `str`'s method of this name, which std does not have of bytes.
-pub fn split_once(s: &[u8], stop: u8) -> Option<(&[u8], &[u8])>
+fn split_once(s: &[u8], stop: u8) -> Option<(&[u8], &[u8])>
     ensures { pieces result ≡ parted_once stop s.now }
 {
     let at = place_of(s, stop)?;

@@ -7,12 +7,9 @@ use Rattle.runtake.specs.Take.{reading_of}
 use Rattle.runtext.specs.Read.{read_parts}
 use Rattle.runtext.proofs.read_lines.Given as goal
 
-abbrev pub invariant-loop-line : goal.invariant-loop-line
-invariant-loop-line l = record {
-  few : l.n + length l.rest ≤ 65536;
-  same : read_parts 0 (reading_of l.initial.reading) (parted 10 l.initial.rest) ≡ read_parts l.n (reading_of l.reading) (parted 10 l.rest);
+abbrev pub invariant-loop-piece : goal.invariant-loop-piece
+invariant-loop-piece l = record {
+  few : l.n + length l.piece-iterator.rest.now ≤ 65536;
+  same : read_parts 0 (reading_of l.initial.reading) (parted 10 l.text) ≡ read_parts l.n (reading_of l.reading) (parted 10 l.piece-iterator.rest.now);
   lent : l.reading.words.ghost_name ≡ l.initial.reading.words.ghost_name;
 }
-
-abbrev pub decreases-loop-line : goal.decreases-loop-line
-decreases-loop-line l = length l.rest

@@ -1,1 +1,2 @@
+pub mod Earliest
 pub mod Walk

@@ -3,7 +3,7 @@
 #![tactic(auto)]
 
 ghost use Rattle.std.specs.Prelude.{◌≡◌};
-ghost use Rattle.rules.specs.Events.{due_by, sooner, next_of, pop_observation, handle, run_events};
+ghost use Rattle.rules.specs.Events.{due_by, next_of, pop_observation, handle, run_events};
 ghost use Rattle.reports.specs.Log.{log_of, expected, actual};
 ghost use Rattle.walk.specs.Events.{rule_class, rule_next};
 
@@ -36,19 +36,7 @@ fn due_by(limit: u64, class: Class, at_ns: u64) -> Option<Due>
     (at_ns <= limit).then_some(Due { class, at_ns })
 }
 
-// The earlier of two, at equal times the first: by hand, as the rules say it. `min_by_key` would want the three in a row, and the rule's two steps as one fold over it.
-#[tactic(auto, unfolding(rules::specs::Events::sooner, numbers::specs::Choice::pick))]
-fn sooner(a: Option<Due>, b: Option<Due>) -> Option<Due>
-    ensures { rule_next result ≡ sooner (rule_next a) (rule_next b) }
-{
-    let (Some(first), Some(second)) = (a, b) else {
-        return a.or(b);
-    };
-    if first.at_ns <= second.at_ns { a } else { b }
-}
-
-// The least time at or below the limit, of the first entries of the three lists.
-#[tactic(auto, unfolding(rules::specs::Events::next_of, rules::specs::Events::next_msg, rules::specs::Events::next_delivery, rules::specs::Events::next_observation, numbers::specs::Choice::on_some))]
+// The least time at or below the limit, of the first entries of the three lists; at equal times the first list's. A chain and no array, whose `flatten` costs half as much again a row; nested to the right it costs least.
 fn next_of(limit: u64, s: &KernelState) -> Option<Due>
     ensures { rule_next result ≡ next_of limit s.now }
 {
@@ -64,7 +52,9 @@ fn next_of(limit: u64, s: &KernelState) -> Option<Due>
         .observed
         .get(0)
         .and_then(|o| due_by(limit, Class::Observation, o.ready_ns));
-    sooner(msg, sooner(delivery, observation))
+    msg.into_iter()
+        .chain(delivery.into_iter().chain(observation))
+        .min_by_key(|due| due.at_ns)
 }
 
 // An observation pauses the run. At the last step it is removed unseen, and the run is truncated.

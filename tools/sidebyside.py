@@ -151,6 +151,7 @@ for c in sorted(set(a) | set(b)):
         print()
 
 print("## Theorems that README or docs/ name, old and new\n")
+print("By the word alone, so that a lemma or a field stands here too whose name is also a word of the docs (`at`, `ended`, `expired`).\n")
 words = set(re.findall(r"`([^`\s]+)`", " ".join(t for n, t in list(old.items()) + list(new.items()) if n == "README.md" or (n.startswith("docs/") and "DESIGN-PASS" not in n and "PORT" not in n))))
 a, b = collect(old, "proofs", ".antt", statements, True), collect(new, "proofs", ".antt", statements, True)
 print("| | Was | Is |\n|---|---|---|")

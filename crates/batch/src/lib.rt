@@ -17,7 +17,7 @@ use reports::Stop;
 use reports::log::Log;
 use state::{HaltReason, KernelEvent, KernelState, Refusal, Status};
 
-// The records of the log that another call must have room for.
+// Another call is made only where the log has room for so many records more. `lines` has the same number for what is printed of a call, since what prints stands on nothing of the kernel.
 const CALL_RECORDS: usize = 512;
 
 // What a batch gives: the answer and the state of its last call, how many events all its calls raised, and how many the last one did. By a rule of the project the state goes in by value and comes back in every case, refused or not, and so stands beside the answer and not in it; the counts too, since a refused batch raised none.

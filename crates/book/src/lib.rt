@@ -18,7 +18,7 @@ pub enum Side {
     Sell,
 }
 
-// The paper's number, beside its case here and in the others of this kind: as a discriminant it would be part of the type, and one of which a case holds something, as `runtext::Fault`, could not be cast.
+// The paper's number, beside its case here and in the others of this kind: as a discriminant it would be part of the type, and an enum of which a case holds something, as `runtext::Fault`, could not be cast.
 impl From<Side> for u64 {
     ghost from_gives = { λ side n. n ≡ side_number side };
 
@@ -113,7 +113,7 @@ pub struct VenueMsg {
 impl Blank for VenueMsg {
     ghost blank = { blank_msg };
 
-    // By hand: `Default` is derived of an enum only where its first case holds nothing, and a cancel holds a number.
+    // By hand: `Default` is derived of an enum only by a case that holds nothing, and each kind of message holds something.
     fn blank() -> Self {
         VenueMsg {
             eff_ns: 0,

@@ -57,7 +57,7 @@ impl<T: Blank, const N: usize> Arr<T, N> {
     }
 
     // Each entry from the place on moves one slot up: it is carried to its new slot by the one before it.
-    // By places, as a rule of the project has it: each entry shifts by one store, and its stores are to be counted where they are made, which `copy_within` and `rotate_right` leave nothing of.
+    // By places, as a rule of the project has it: each entry shifts by one store, and the stores are to be counted where they are made; `copy_within` and `rotate_right` leave none to count.
     pub fn insert(&mut self, at: usize, value: T) -> Result<(), Full>
         ensures { put_of result self.new ≡ put_at N at value self.old }
     {

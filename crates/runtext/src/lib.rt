@@ -105,7 +105,7 @@ fn take_text(reading: &mut Reading, n: u64, line: &[u8]) -> Result<(), BadLine>
     reading.take_line(n, line_of(line).ok_or(BadLine)?)
 }
 
-// The lines of the text, up to the first bad one. A piece without a newline is a last line that is not ended, which is bad. So is an absent `c` or `f`. The lines are counted, and not numbered by `enumerate`, since how many there were is asked behind them too.
+// The lines of the text, up to the first bad one. A piece without a newline is a last line that is not ended, which is bad. So is an absent `c` or `f`. The lines are counted, and not numbered by `enumerate`, since behind the loop too it is asked how many there were.
 fn read_lines(reading: &mut Reading, text: &[u8]) -> Result<(), Fault>
     ensures reads { lines_read result (reading_of reading.new) ≡ read_lines text.now (reading_of reading.old) }
     ensures lent { reading.new.words.ghost_name ≡ reading.old.words.ghost_name }

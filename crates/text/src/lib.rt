@@ -25,7 +25,7 @@ fn split_once(s: &[u8], stop: u8) -> Option<(&[u8], &[u8])>
     Some((&s[..at], &s[at + 1..]))
 }
 
-// The number that a field writes: 1 to 20 digits, within 64 bits. By hand: std's `parse` costs 443 instructions a quiet row (docs/BENCHMARKS.md) more, a quarter of it, most of them in `from_utf8`.
+// The number that a field writes: 1 to 20 digits, within 64 bits. By hand: by std's `parse` a quiet row of a replay costs 443 instructions more, a quarter of what it costs (docs/BENCHMARKS.md).
 pub fn number(field: &[u8]) -> Option<u64>
     ensures { result ≡ number field.now }
 {

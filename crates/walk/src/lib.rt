@@ -36,7 +36,7 @@ fn due_by(limit: u64, class: Class, at_ns: u64) -> Option<Due>
     (at_ns <= limit).then_some(Due { class, at_ns })
 }
 
-// The least time at or below the limit, of the first entries of the three lists; at equal times the first list's. A chain and no array, whose `flatten` costs half as much again a row; nested to the right it costs least.
+// The least time at or below the limit, of the first entries of the three lists; at equal times the first list's. A chain and no array: by an array and its `flatten` a row would cost half as much again. Nested to the right the chain costs least.
 fn next_of(limit: u64, s: &KernelState) -> Option<Due>
     ensures { rule_next result ≡ next_of limit s.now }
 {

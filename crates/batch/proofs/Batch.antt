@@ -23,7 +23,7 @@ use Rattle.rules.specs.Phases.{phases}
 use Rattle.rules.specs.Calls as calls
 use Rattle.rules.specs.Calls.{refuse, refusal_of, answer_on, answer, counts_fit, advance, pass}
 use Rattle.rules.specs.Batch.{call_records, ending, is_stay, goes_on, run_from, run, returned_run}
-use Rattle.rules.proofs.EventsBound.{phases-few}
+use Rattle.rules.proofs.HowFar.{few-events}
 use Rattle.reports.specs.Log.{Logged, append_events}
 use Rattle.reports.proofs.Append.{appended_append, appended_all, length-written}
 use Rattle.entry.specs.Entry.{may_advance}
@@ -109,7 +109,7 @@ module _ (c : Config) (rows w : List ℕ) (name passes : ℕ) (s₀ : KernelStat
   made {s = s} {l = l} S e h = record { from = s; log_from = l; calls = S; call = e; counted = h }
 
   -- a call from s, and what the code left of it
-  module _ (five : eqb (length rows % 5) 0 ≡ true) (rows_few : length rows < 2 ^ 60) (short : length w < 2 ^ 60) {left : ℕ} {s : KernelState} {l : Logged} (S : Sofar left s l)
+  module _ (five : eqb (length rows % 5) 0 ≡ true) (short : length w < 2 ^ 60) {left : ℕ} {s : KernelState} {l : Logged} (S : Sofar left s l)
       {b : Bool} {t : KernelState} {m : Logged} (e : called b t m ≡ told l (answer (phases c rows s))) where
     abbrev given : calls.Answer
     given = answer (phases c rows s)
@@ -122,7 +122,7 @@ module _ (c : Config) (rows w : List ℕ) (name passes : ℕ) (s₀ : KernelStat
     call_is = rw (five, S.fit)
 
     all_few : length all < 2 ^ 64 - 1
-    all_few = omega (arith, S.few, phases-few c rows s S.fit, length-append S.events given.events)
+    all_few = let g : length given.events ≤ 522 = rw call_is at (few-events c rows s).most in omega (arith, S.few, g, length-append S.events given.events)
 
     stays_is : b ≡ is_stay given.did
     unfolding told

@@ -6,7 +6,6 @@ pub mod Paid
 pub mod CostsOfRow
 pub mod Fewer
 pub mod HowFar
-pub mod EventsBound
 pub mod Farthest
 pub mod RowsRead
 pub mod Cases

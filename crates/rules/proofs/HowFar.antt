@@ -39,7 +39,7 @@ few-raisable (m ∷ l) = let e = few-raisable l in let w = go m.kind in omega ar
     go (Expire id) = omega arith
 
 -- messages within their capacity can raise 80 events
-pub few-msgs : (s : KernelState) → Fitting s → msgs_events s.msgs ≤ 80
+few-msgs : (s : KernelState) → Fitting s → msgs_events s.msgs ≤ 80
 few-msgs s f = omega (arith, f.msgs, few-raisable (below s.msgs), length-take s.msgs.count s.msgs.slots)
 
 -- the rows that can still be taken up: each queues an observation, and one that is taken from the queue ends the call

@@ -1,4 +1,4 @@
--- N8, "How far can one call go?": what is claimed of every call of `advance`, whatever its configuration, its rows and its state, and whatever it does. The proof is proofs/HowFar.antt.
+-- N8, "How far can one call go?": what is claimed of every call of `advance`, whatever its configuration, its rows and its state, and whatever it does. The proof is proofs/HowFar.antt; that no smaller number than 17 would do, proofs/Farthest.antt.
 use Rattle.std.specs.Prelude.{ℕ, ◌+◌, ◌-◌, ◌≤◌, List}
 use Rattle.book.specs.declared.config.Config.{Config}
 use Rattle.state.specs.declared.KernelState.{KernelState}

@@ -2,13 +2,14 @@
 use Prim.Native.Nat.{ℕ, ◌+◌}
 use mathlib.Core.Bool.{true, false}
 use mathlib.Core.Path.{◌≡◌, refl, ap, ◌∙◌}
-use Rattle.std.specs.Prelude.{Some, None, Result, Ok}
+use Rattle.std.specs.Prelude.{Option, Some, None, Result, Ok}
 use Rattle.numbers.specs.Choice.{on_some}
 use Rattle.numbers.specs.Words.{fitting}
 use Rattle.lists.specs.Lists.{put_of, pushed, put_before, taken_of, taken_at}
 use Rattle.lists.proofs.Cases.{on_true, on_false}
 use Rattle.lists.proofs.Exits.{none_same}
 use Rattle.lists.specs.declared.Arr.{Arr}
+use Rattle.lists.specs.declared.Counted.{Counted}
 use Rattle.lists.specs.declared.Full.{Full}
 use Rattle.book.specs.Capacities.{orders_capacity, msgs_capacity}
 use Rattle.book.specs.Entries.{id_above, is_later}
@@ -26,32 +27,32 @@ use Rattle.reports.proofs.Then.{full_halts, put_run, ran_here, take_none}
 
 -- ---- an order with a cancel in flight, and one without
 module _ (o : VenueOrder) (s : KernelState) where
-  pub awaited : {l : Orders} (r : Result (Unit {0}) Full) → o.cancel_inflight ≡ true → put_of r l ≡ put_before orders_capacity (id_above o.id) o s.awaiting
+  pub awaited : {l : Orders} (r : Result (Unit {0}) Full) {a : Counted (Result (Unit {0}) Full)} → o.cancel_inflight ≡ true → a.answer ≡ r → put_of a l ≡ put_before orders_capacity (id_above o.id) o s.awaiting
       → run_of (full_halts r) (with_awaiting s l) ≡ await_marked o s
   unfolding await_marked await
-  awaited r h e = put_run orders_capacity _ o s.awaiting (with_awaiting s) s r refl e ∙ on_true _ _ h
+  awaited r h q e = put_run orders_capacity _ o s.awaiting (with_awaiting s) s r refl q e ∙ on_true _ _ h
 
   pub unmarked : o.cancel_inflight ≡ false → ran_to s ≡ await_marked o s
   unfolding await_marked
   unmarked h = on_false _ _ h
 
 -- ---- an order goes among the booked ones
-pub booked_run : (o : VenueOrder) (s : KernelState) {l : Orders} (r : Result (Unit {0}) Full) → put_of r l ≡ pushed orders_capacity o s.orders → run_of (full_halts r) (with_orders s l) ≡ book o s
+pub booked_run : (o : VenueOrder) (s : KernelState) {l : Orders} (r : Result (Unit {0}) Full) {a : Counted (Result (Unit {0}) Full)} → a.answer ≡ r → put_of a l ≡ pushed orders_capacity o s.orders → run_of (full_halts r) (with_orders s l) ≡ book o s
 unfolding book
-booked_run o s r h = put_run orders_capacity _ o s.orders (with_orders s) s r refl h
+booked_run o s r q h = put_run orders_capacity _ o s.orders (with_orders s) s r refl q h
 
 -- ---- a message goes among those that are queued, with the next number
-pub scheduled : (at : ℕ) (k : MsgKind) (s : KernelState) {n : ℕ} {l : Msgs} (r : Result (Unit {0}) Full) → Some n ≡ fitting (s.seqs.next_msg_seq + 1)
-    → put_of r l ≡ put_before msgs_capacity (is_later at s.seqs.next_msg_seq) (record { eff_ns = at; seq = s.seqs.next_msg_seq; kind = k }) s.msgs
+pub scheduled : (at : ℕ) (k : MsgKind) (s : KernelState) {n : ℕ} {l : Msgs} (r : Result (Unit {0}) Full) {a : Counted (Result (Unit {0}) Full)} → Some n ≡ fitting (s.seqs.next_msg_seq + 1)
+    → a.answer ≡ r → put_of a l ≡ put_before msgs_capacity (is_later at s.seqs.next_msg_seq) (record { eff_ns = at; seq = s.seqs.next_msg_seq; kind = k }) s.msgs
     → run_of (full_halts r) (with_msgs (with_seqs s (seqs_next_msg_seq s.seqs n)) l) ≡ schedule at k s
 unfolding schedule on_some
-scheduled at k s {n = n} r h e = let t : KernelState = with_seqs s (seqs_next_msg_seq s.seqs n) in rw (← h) (put_run msgs_capacity _ _ s.msgs (with_msgs t) t r refl e)
+scheduled at k s {n = n} r h q e = let t : KernelState = with_seqs s (seqs_next_msg_seq s.seqs n) in rw (← h) (put_run msgs_capacity _ _ s.msgs (with_msgs t) t r refl q e)
 
 -- ---- no entry comes out of a list: k puts a list into the state s, whose list is r
-pub took_none : {A : Type 0} {n : ℕ} (m : Logged) (cap : ℕ) (d : A) (i : ℕ) (r : Arr A n) (k : Arr A n → KernelState) (s : KernelState) (f : A → Arr A n → Run) {l : Arr A n}
-    → k r ≡ s → taken_of None l ≡ taken_at cap d i r → actual (Ok tt) (k l) m ≡ expected m (taking (taken_at cap d i r) f (ran_to s))
-took_none m cap d i r k s f {l = l} e h =
-    take_none m (taken_at cap d i r) f (ran_to s) h (ran_here m (k l) ∙ ap (λ y. expected m (ran_to y)) (ap k (none_same cap r d i l h) ∙ e))
+pub took_none : {A : Type 0} {n : ℕ} (m : Logged) (cap : ℕ) (d : A) (i : ℕ) (r : Arr A n) (k : Arr A n → KernelState) (s : KernelState) (f : A → Arr A n → Run) {a : Counted (Option A)} {l : Arr A n}
+    → k r ≡ s → a.answer ≡ None → taken_of a l ≡ taken_at cap d i r → actual (Ok tt) (k l) m ≡ expected m (taking (taken_at cap d i r) f (ran_to s))
+took_none m cap d i r k s f {l = l} e q h =
+    take_none m (taken_at cap d i r) f (ran_to s) q h (ran_here m (k l) ∙ ap (λ y. expected m (ran_to y)) (ap k (none_same cap r d i q h) ∙ e))
 
 -- ---- a message that is no activation
 pub not_activation : (l : Logged) (m : MsgKind) (k : VenueOrder → Run) (z : Run) → ((o : VenueOrder) (life : ℕ) → m ≡ Activate o life → ⊥) → {x : StepResult} → x ≡ expected l z → x ≡ expected l (on_activation m k z)

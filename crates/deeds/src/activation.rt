@@ -27,7 +27,7 @@ fn schedule(s: &mut KernelState, eff_ns: u64, kind: MsgKind) -> Result<(), HaltR
 {
     let seq = s.seqs.next_msg_seq;
     s.seqs.next_msg_seq = checked_add(seq, 1).ok_or(HaltReason::CounterOverflow)?;
-    insert_by_key(&mut s.msgs, VenueMsg { eff_ns, seq, kind })?;
+    insert_by_key(&mut s.msgs, VenueMsg { eff_ns, seq, kind }).answer?;
     Ok(())
 }
 
@@ -54,7 +54,7 @@ fn accept(
     ensures { (at : KernelState) → stamped ≡ stamp_of at → actual (halting result) s.new (log_of log.new) ≡ expected (log_of log.old) (accept cfg.now order expiry at s.old) }
 {
     report(cfg, s, stamped, &order, ExecKind::Accepted, false, log)?;
-    s.orders.push(order)?;
+    s.orders.push(order).answer?;
     schedule_expiry(s, expiry, order.id)
 }
 

@@ -24,7 +24,7 @@ fn cancel_booked(
 ) -> Result<(), HaltReason>
     ensures { (at : KernelState) → stamped ≡ stamp_of at → actual (halting result) s.new (log_of log.new) ≡ expected (log_of log.old) (cancel_booked cfg.now at index s.old) }
 {
-    let Some(order) = s.orders.remove(index) else {
+    let Some(order) = s.orders.remove(index).answer else {
         return Ok(());
     };
     release(s, &order)?;
@@ -42,7 +42,7 @@ fn cancel_activation(
 ) -> Result<(), HaltReason>
     ensures { (at : KernelState) → stamped ≡ stamp_of at → actual (halting result) s.new (log_of log.new) ≡ expected (log_of log.old) (cancel_activation cfg.now at index s.old) }
 {
-    let Some(msg) = s.msgs.remove(index) else {
+    let Some(msg) = s.msgs.remove(index).answer else {
         return Ok(());
     };
     let MsgKind::Activate { order, .. } = msg.kind else {
@@ -62,7 +62,7 @@ fn cancel_awaiting(
 ) -> Result<(), HaltReason>
     ensures { (at : KernelState) → stamped ≡ stamp_of at → actual (halting result) s.new (log_of log.new) ≡ expected (log_of log.old) (cancel_awaiting cfg.now at index s.old) }
 {
-    let Some(order) = s.awaiting.remove(index) else {
+    let Some(order) = s.awaiting.remove(index).answer else {
         return Ok(());
     };
     report(

@@ -23,7 +23,7 @@ fn expire_booked(
 ) -> Result<(), HaltReason>
     ensures { (at : KernelState) → stamped ≡ stamp_of at → actual (halting result) s.new (log_of log.new) ≡ expected (log_of log.old) (expire_booked cfg.now at index s.old) }
 {
-    let Some(order) = s.orders.remove(index) else {
+    let Some(order) = s.orders.remove(index).answer else {
         return Ok(());
     };
     release(s, &order)?;

@@ -45,7 +45,7 @@ pub fn await_marked(s: &mut KernelState, order: VenueOrder) -> Result<(), HaltRe
     ensures { run_of result s.new ≡ await_marked order s.old }
 {
     if order.cancel_inflight {
-        insert_by_id(&mut s.awaiting, order)?;
+        insert_by_id(&mut s.awaiting, order).answer?;
     }
     Ok(())
 }

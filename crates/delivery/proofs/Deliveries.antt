@@ -15,6 +15,7 @@ use Rattle.lists.proofs.Exits.{none_same}
 use Rattle.book.specs.Entries.{blank_msg, blank_delivery, blank_obs}
 use Rattle.book.specs.declared.Delivery.{Delivery}
 use Rattle.book.specs.declared.VenueMsg.{VenueMsg}
+use Rattle.lists.specs.declared.Counted.{Counted}
 use Rattle.account.specs.Rows.{AgentAccount}
 use Rattle.deliveries.specs.Rows.{Deliveries}
 use Rattle.msgs.specs.Rows.{Msgs}
@@ -37,19 +38,19 @@ use Rattle.reports.proofs.Append.{appended_append}
 use Rattle.reports.proofs.Then.{ran_here, halted_here, then_on, then_stop, quiet_on, quiet_stop, raise_on, take_on, take_none}
 
 -- ---- the first delivery
-pub deliver_none : (l : Logged) (s : KernelState) (q : Deliveries) → taken_of None q ≡ popped 24 blank_delivery s.deliveries → actual (Ok tt) (with_deliveries s q) l ≡ expected l (deliver_next s)
+pub deliver_none : (l : Logged) (s : KernelState) (q : Deliveries) {a : Counted (Option Delivery)} → a.answer ≡ None → taken_of a q ≡ popped 24 blank_delivery s.deliveries → actual (Ok tt) (with_deliveries s q) l ≡ expected l (deliver_next s)
 unfolding deliver_next
-deliver_none l s q h =
-    take_none l (popped 24 blank_delivery s.deliveries) _ _ h
-    (ap (λ y. actual (Ok tt) (with_deliveries s y) l) (none_same 24 s.deliveries blank_delivery 0 q h) ∙ ran_here l s)
+deliver_none l s q e h =
+    take_none l (popped 24 blank_delivery s.deliveries) _ _ e h
+    (ap (λ y. actual (Ok tt) (with_deliveries s y) l) (none_same 24 s.deliveries blank_delivery 0 e h) ∙ ran_here l s)
 
 -- d came out, q is the rest, and m the log with its event
-module _ (l m : Logged) (s : KernelState) (d : Delivery) (q : Deliveries) (h : taken_of (Some d) q ≡ popped 24 blank_delivery s.deliveries) (em : m ≡ append_event l (Delivered d.report)) where
+module _ (l m : Logged) (s : KernelState) (d : Delivery) (q : Deliveries) {a : Counted (Option Delivery)} (g : a.answer ≡ Some d) (h : taken_of a q ≡ popped 24 blank_delivery s.deliveries) (em : m ≡ append_event l (Delivered d.report)) where
   came_out : {x : StepResult}
       → x ≡ expected m (rules.and_then (move_agent d.fill (with_deliveries s q)) λ u. rules.and_then (count_reject d.report u) λ v. rules.ran_to (with_account v (on_delivery d.report v.account)))
       → x ≡ expected l (deliver_next s)
   unfolding deliver_next
-  came_out p = take_on l (popped 24 blank_delivery s.deliveries) (λ y r. deliver y (with_deliveries s r)) _ h (raise_on l m (Delivered d.report) _ _ em p)
+  came_out p = take_on l (popped 24 blank_delivery s.deliveries) (λ y r. deliver y (with_deliveries s r)) _ g h (raise_on l m (Delivered d.report) _ _ em p)
 
   pub not_moved : {t : KernelState} {r : HaltReason} → rules.halt_at r t ≡ move_agent d.fill (with_deliveries s q) → actual (Err (stop.Halt r)) t m ≡ expected l (deliver_next s)
   not_moved e = came_out (quiet_stop m _ _ e)

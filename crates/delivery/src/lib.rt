@@ -48,7 +48,7 @@ fn count_reject(s: &mut KernelState, report: &ReportRec) -> Result<(), HaltReaso
 pub fn deliver_next(s: &mut KernelState, log: &mut Log) -> Result<(), HaltReason>
     ensures { actual (halting result) s.new (log_of log.new) ≡ expected (log_of log.old) (deliver_next s.old) }
 {
-    let Some(delivery) = s.deliveries.pop_front() else {
+    let Some(delivery) = s.deliveries.pop_front().answer else {
         return Ok(());
     };
     log.emit(KernelEvent::Delivered(delivery.report));

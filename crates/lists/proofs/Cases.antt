@@ -1,5 +1,5 @@
 -- What is so of each way out of a choice is so of the choice. Assumes nothing.
-use Rattle.std.specs.Prelude.{Option, Some, None}
+use Rattle.std.specs.Prelude.{Option, Some, None, Ok, Err, ok_or}
 use mathlib.Core.Bool.{Bool, true, false}
 use mathlib.Core.Path.{◌≡◌, refl}
 use native.Mathlib.Omega.{arith}
@@ -44,3 +44,12 @@ module _ {A B : Type 0} (k : A → B) (z : B) {o : Option A} where
 -- ---- facts of two ways out at once prove anything: by `cc` they make 0 the number 1
 pub different : {A : Type 0} → ◌≡◌ {A = ℕ} 0 1 → A
 different z = absurd (omega arith)
+
+-- ---- what an `ok_or` found
+pub some_of : {A E : Type 0} (o : Option A) (h : E) {x : A} → Ok x ≡ ok_or o h → o ≡ Some x
+some_of (Some y) h e = cc
+some_of None h e = different cc
+
+pub none_of : {A E : Type 0} (o : Option A) {h e : E} → Err e ≡ ok_or o h → (o ≡ None) × (e ≡ h)
+none_of (Some y) q = different cc
+none_of None q = (refl, cc)

@@ -1,5 +1,5 @@
 -- What the code of an operation answers on each way out is what the operation of `Lists` answers, of any kind of entry. Assumes nothing.
-use Rattle.std.specs.Prelude.{Option, Some, None, Err}
+use Rattle.std.specs.Prelude.{Option, Some, None, Result, Err, is_ok}
 use Prim.Native.Nat.{ℕ, ◌+◌, ◌-◌, ◌≤◌, ◌<◌}
 use mathlib.Core.Bool.{Bool, true, false}
 use mathlib.Core.Path.{◌≡◌, refl, sym, ap, ◌∙◌}
@@ -8,17 +8,18 @@ use native.Mathlib.Omega.{arith}
 use lib.Dec.{ltb, leb}
 use lib.ListN.{length, take, drop, get_or, set, drop_of_length-le}
 use lib.Seq.{get_or-take, length-take-le}
-use borrow.Author.Tests.{lt-ltb, le-ltb, le-leb, lt-leb, ltb-true, ltb-false, leb-true}
+use borrow.Author.Tests.{lt-ltb, le-ltb, le-leb, lt-leb, ltb-true, ltb-false, leb-true, leb-false}
 use Rattle.std.specs.Borrow.{Bor}
 use Rattle.std.specs.List.{slice_get}
 use Rattle.std.specs.Option.{option_copied}
 use Rattle.std.specs.Slice.{IsItemAt}
 use Rattle.std.proofs.lemmas.Option.{slice_get-get_or, slice_get_past, slice_get_read}
 use Rattle.numbers.specs.Choice.{pick}
-use Rattle.lists.specs.Lists.{Put, Taken, put_of, taken_of, below, live, placed, without, put_at, taken_at, entry_at, store_at, emptied}
+use Rattle.lists.specs.Lists.{Put, Taken, not_put, not_taken, put_of, taken_of, below, live, placed, without, put_at, taken_at, entry_at, store_at, emptied}
 use Rattle.lists.proofs.Cases.{pick_case, pick_both, different}
-use Rattle.lists.proofs.Loops.{Inserting, insert_done, Removing, remove_done, Emptying, empty_done, push_slots}
+use Rattle.lists.proofs.Loops.{Inserting, insert_done, Removing, remove_done, Emptying, empty_done}
 use Rattle.lists.specs.declared.Arr.{Arr}
+use Rattle.lists.specs.declared.Counted.{Counted}
 use Rattle.lists.specs.declared.Full.{Full}
 
 -- what a slice lends at a place is what stands there
@@ -28,23 +29,18 @@ item_value l p (Some x) h = sym (slice_get_read l (length l) p x.now refl h.3.0 
 
 module _ {A : Type 0} {n : ℕ} (cap : ℕ) (r : Arr A n) where
   -- ---- an entry goes in: the list is full, the place is past the end, the loop is done
-  pub put_full : (p : ℕ) (v : A) → cap ≤ r.count → record { ok = false; list = r } ≡ put_at cap p v r
+  pub put_full : (p : ℕ) (v : A) → cap ≤ r.count → not_put r ≡ put_at cap p v r
   unfolding put_at pick
   put_full p v h = simp (le-ltb _ _ h)
 
-  pub put-past : (p : ℕ) (v : A) → r.count < cap → r.count < p → record { ok = false; list = r } ≡ put_at cap p v r
+  pub put-past : (p : ℕ) (v : A) → r.count < cap → r.count < p → not_put r ≡ put_at cap p v r
   unfolding put_at pick
   put-past p v h k = simp (lt-ltb _ _ h, lt-leb _ _ k)
 
-  pub put_in : {d v carry : A} {p i : ℕ} {l : List A} → r.count < cap → r.count + 1 ≤ i → Inserting d p v r.count r.slots i l carry
-      → record { ok = true; list = record { slots = l; count = r.count + 1 } } ≡ put_at cap p v r
+  pub put_in : {d v carry : A} {p i m : ℕ} {l : List A} → r.count < cap → r.count + 1 ≤ i → Inserting d p v r.count r.slots i m l carry
+      → record { ok = true; stores = m; list = record { slots = l; count = r.count + 1 } } ≡ put_at cap p v r
   unfolding put_at placed pick
-  put_in h k I = simp (lt-ltb _ _ h, le-leb _ _ I.place, insert_done k I)
-
-  -- behind the last it is one store
-  pub push_in : (v : A) → r.count < cap → length r.slots ≡ cap → record { ok = true; list = record { slots = set r.slots r.count v; count = r.count + 1 } } ≡ put_at cap r.count v r
-  unfolding put_at placed pick
-  push_in v h k = simp (lt-ltb _ _ h, le-leb r.count r.count (omega arith), push_slots r.count v r.slots (omega arith))
+  put_in {p = p} {m = m} h k I = let e : m ≡ r.count - p + 1 = omega (arith, I.counted, I.place, I.to) in simp (lt-ltb _ _ h, le-leb _ _ I.place, e, insert_done k I)
 
   -- ---- the entry at a place: what stands there among the live
   entry_live : (d : A) (p : ℕ) → cap ≤ length r.slots → slice_get (live cap r) p ≡ entry_at cap d p r
@@ -78,17 +74,17 @@ module _ {A : Type 0} {n : ℕ} (cap : ℕ) (r : Arr A n) where
       (λ _ q. different cc)
 
   -- ---- an entry comes out: there is none, or the loop is done and b, a blank, is stored
-  pub take_none : (d : A) (p : ℕ) → None ≡ entry_at cap d p r → taken_of None r ≡ taken_at cap d p r
+  pub take_none : (d : A) (p : ℕ) → None ≡ entry_at cap d p r → not_taken r ≡ taken_at cap d p r
   unfolding taken_at entry_at
   take_none d p =
-      pick_both (λ (o : Option A) (t : Taken A n). None ≡ o → taken_of None r ≡ t) (leb r.count cap) _ _ _ _
-      (λ _. pick_both (λ (o : Option A) (t : Taken A n). None ≡ o → taken_of None r ≡ t) (ltb p r.count) _ _ _ _ (λ _ q. different cc) (λ _ _. refl))
+      pick_both (λ (o : Option A) (t : Taken A n). None ≡ o → not_taken r ≡ t) (leb r.count cap) _ _ _ _
+      (λ _. pick_both (λ (o : Option A) (t : Taken A n). None ≡ o → not_taken r ≡ t) (ltb p r.count) _ _ _ _ (λ _ q. different cc) (λ _ _. refl))
       (λ _ _. refl)
 
-  pub take_in : {d b : A} {p i : ℕ} {l : List A} → r.count ≤ cap → b ≡ d → r.count - 1 ≤ i → Removing d p r.count r.slots i l
-      → record { got = Some (get_or r.slots p d); list = record { slots = set l (r.count - 1) b; count = r.count - 1 } } ≡ taken_at cap d p r
+  pub take_in : {d b : A} {p i m : ℕ} {l : List A} → r.count ≤ cap → b ≡ d → r.count - 1 ≤ i → Removing d p r.count r.slots i m l
+      → record { got = Some (get_or r.slots p d); stores = m + 1; list = record { slots = set l (r.count - 1) b; count = r.count - 1 } } ≡ taken_at cap d p r
   unfolding taken_at without pick
-  take_in h e k R = simp (le-leb _ _ h, lt-ltb _ _ R.place, e, remove_done k R)
+  take_in {p = p} {m = m} h e k R = let s : m + 1 ≡ r.count - p = omega (arith, R.counted, R.place, R.to) in simp (le-leb _ _ h, lt-ltb _ _ R.place, s, e, remove_done k R)
 
   -- ---- another entry at a place
   pub store_over : (v : A) (p : ℕ) → cap < r.count → record { ok = false; list = r } ≡ store_at cap p v r
@@ -115,18 +111,28 @@ module _ {A : Type 0} {n : ℕ} (cap : ℕ) (r : Arr A n) where
       let e : length (take r.count r.slots) ≡ r.count = length-take-le r.count r.slots k in
       rw (le-leb _ _ h, empty_done m E, drop_of_length-le (take r.count r.slots) {i = length (take r.count r.slots)} (omega arith), e, append-nil)
 
--- ---- what did not go in, or come out, leaves the list as it was
-module _ {A : Type 0} {n : ℕ} (cap : ℕ) (r : Arr A n) where
-  pub full_same : (p : ℕ) (v : A) (f : Full) (l : Arr A n) → put_of (Err f) l ≡ put_at cap p v r → l ≡ r
+-- ---- what is so of each way out is so of the operation
+module _ {A : Type 0} {n : ℕ} (cap : ℕ) where
+  pub put_ways : (P : Put A n → Type 0) (i : ℕ) (v : A) (r : Arr A n)
+      → (r.count < cap → i ≤ r.count → P (record { ok = true; stores = r.count - i + 1; list = placed i v r })) → P (not_put r) → P (put_at cap i v r)
   unfolding put_at
-  full_same p v f l e =
-      pick_case (λ q. put_of (Err f) l ≡ q → l ≡ r) (ltb r.count cap) _ _
-      (λ _. pick_case (λ q. put_of (Err f) l ≡ q → l ≡ r) (leb p r.count) _ _ (λ _ g. different (cc (ap (λ (q : Put A n). q.ok) g))) (λ _ g. ap (λ (q : Put A n). q.list) g))
-      (λ _ g. ap (λ (q : Put A n). q.list) g) e
+  put_ways P i v r h k = pick_case P (ltb r.count cap) _ _ (λ e. pick_case P (leb i r.count) _ _ (λ f. h (ltb-true _ _ e) (leb-true _ _ f)) (λ _. k)) (λ _. k)
 
-  pub none_same : (d : A) (p : ℕ) (l : Arr A n) → taken_of None l ≡ taken_at cap d p r → l ≡ r
+  pub take_ways : (P : Taken A n → Type 0) (d : A) (i : ℕ) (r : Arr A n)
+      → (r.count ≤ cap → i < r.count → P (record { got = Some (get_or r.slots i d); stores = r.count - i; list = without d i r }))
+      → ((r.count ≤ cap → r.count ≤ i) → P (not_taken r)) → P (taken_at cap d i r)
   unfolding taken_at
-  none_same d p l e =
-      pick_case (λ q. taken_of None l ≡ q → l ≡ r) (leb r.count cap) _ _
-      (λ _. pick_case (λ q. taken_of None l ≡ q → l ≡ r) (ltb p r.count) _ _ (λ _ g. different (cc (ap (λ (q : Taken A n). q.got) g))) (λ _ g. ap (λ (q : Taken A n). q.list) g))
-      (λ _ g. ap (λ (q : Taken A n). q.list) g) e
+  take_ways P d i r h k =
+      pick_case P (leb r.count cap) _ _
+      (λ e. pick_case P (ltb i r.count) _ _ (λ f. h (leb-true _ _ e) (ltb-true _ _ f)) (λ f. k (λ _. ltb-false _ _ f)))
+      (λ e. k (λ w. let f : cap < r.count = leb-false _ _ e in absurd (omega arith)))
+
+-- ---- what did not go in, or come out, leaves the list as it was
+module _ {A : Type 0} {n : ℕ} (cap : ℕ) (r : Arr A n) {l : Arr A n} where
+  pub full_same : (i : ℕ) (v : A) {f : Full} {a : Counted (Result (Unit {0}) Full)} → a.answer ≡ Err f → put_of a l ≡ put_at cap i v r → l ≡ r
+  full_same i v {a = a} h =
+      put_ways cap (λ q. put_of a l ≡ q → l ≡ r) i v r (λ _ _ g. different (cc (ap is_ok h, ap (λ (q : Put A n). q.ok) g))) (λ g. ap (λ (q : Put A n). q.list) g)
+
+  pub none_same : (d : A) (i : ℕ) {a : Counted (Option A)} → a.answer ≡ None → taken_of a l ≡ taken_at cap d i r → l ≡ r
+  none_same d i {a} h =
+      take_ways cap (λ q. taken_of a l ≡ q → l ≡ r) d i r (λ _ _ g. different (cc (h, ap (λ (q : Taken A n). q.got) g))) (λ _ g. ap (λ (q : Taken A n). q.list) g)

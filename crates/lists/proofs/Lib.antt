@@ -6,3 +6,4 @@ pub mod Sums
 pub mod Totals
 pub mod Examples
 pub mod Room
+pub mod Stores

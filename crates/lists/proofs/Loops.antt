@@ -95,37 +95,29 @@ module _ {A : Type 0} where
   remove_at-take (suc i) zero (x ∷ l) h k = absurd (not-suc-le-zero h)
   remove_at-take (suc i) (suc m) (x ∷ l) h k = ap (λ (r : List A). x ∷ r) (remove_at-take i m l (le_of_suc-le-suc h) (le_of_suc-le-suc k))
 
-  -- ---- an entry behind the last is one store
-  pub push_slots : (n : ℕ) (v : A) (l : List A) → n < length l → set l n v ≡ insert_at n v (take n l) ++ drop (n + 1) l
-  unfolding insert_at
-  push_slots n v l h = rw add-one (go n v l h)
-    where
-      go : (n : ℕ) (v : A) (l : List A) → n < length l → set l n v ≡ (take n (take n l) ++ v ∷ drop n (take n l)) ++ drop (suc n) l
-      go n v [] h = absurd (not-suc-le-zero h)
-      go zero v (x ∷ l) h = refl
-      go (suc n) v (x ∷ l) h = ap (λ (r : List A). x ∷ r) (go n v l (le_of_suc-le-suc h))
-
--- ---- a loop that puts v in at place p of the n live ones of the row l₀, carrying what it lifts: it stands at place i
-pub record Inserting {A : Type 0} (d : A) (p : ℕ) (v : A) (n : ℕ) (l₀ : List A) (i : ℕ) (l : List A) (carry : A) : Type 0 where
+-- ---- a loop that puts v in at place p of the n live ones of the row l₀, carrying what it lifts: it stands at place i, and has stored m times
+pub record Inserting {A : Type 0} (d : A) (p : ℕ) (v : A) (n : ℕ) (l₀ : List A) (i m : ℕ) (l : List A) (carry : A) : Type 0 where
   pub place : p ≤ n
   pub room : n < length l₀
   pub from : p ≤ i
   pub to : i ≤ n + 1
+  pub counted : p + m ≡ i
   pub slots : l ≡ weave i (insert_at p v l₀) l₀
   pub held : carry ≡ get_or (insert_at p v l₀) i d
 
 module _ {A : Type 0} {d : A} {p : ℕ} {v : A} {n : ℕ} {l₀ : List A} where
-  pub insert_begin : p ≤ n → n < length l₀ → Inserting d p v n l₀ p l₀ v
+  pub insert_begin : p ≤ n → n < length l₀ → Inserting d p v n l₀ p 0 l₀ v
   insert_begin h k = record {
     place = h;
     room = k;
     from = omega arith;
     to = omega arith;
+    counted = omega arith;
     slots = insert_at-start p v l₀ (omega arith);
     held = sym (insert_at-at p v l₀ d (omega arith));
   }
 
-  pub insert_turn : {i : ℕ} {l : List A} {carry : A} (e : A) → i < n + 1 → Inserting d p v n l₀ i l carry → Inserting d p v n l₀ (i + 1) (set l i carry) (get_or l i e)
+  pub insert_turn : {i m : ℕ} {l : List A} {carry : A} (e : A) → i < n + 1 → Inserting d p v n l₀ i m l carry → Inserting d p v n l₀ (i + 1) (m + 1) (set l i carry) (get_or l i e)
   insert_turn {i} e h I =
       let k : i < length l₀ = omega arith in
       let m : i < length (insert_at p v l₀) = rw insert_at-length (omega arith) in
@@ -134,29 +126,31 @@ module _ {A : Type 0} {d : A} {p : ℕ} {v : A} {n : ℕ} {l₀ : List A} where
         room = I.room;
         from = omega arith;
         to = omega arith;
+        counted = omega (arith, I.counted);
         slots = rw (I.slots, I.held, add-one) (weave_more i (insert_at p v l₀) l₀ d m k);
         held = rw (I.slots, add-one)
             (weave-later i i (insert_at p v l₀) l₀ e (omega arith) (omega arith) k ∙ get_or_default l₀ i e d k ∙ sym (insert_at-after p i v l₀ d I.from (omega arith)));
       }
 
-  pub insert_done : {i : ℕ} {l : List A} {carry : A} → n + 1 ≤ i → Inserting d p v n l₀ i l carry → l ≡ insert_at p v (take n l₀) ++ drop (n + 1) l₀
+  pub insert_done : {i m : ℕ} {l : List A} {carry : A} → n + 1 ≤ i → Inserting d p v n l₀ i m l carry → l ≡ insert_at p v (take n l₀) ++ drop (n + 1) l₀
   insert_done {i} h I =
       let e : i ≡ n + 1 = omega arith in
       I.slots ∙ rw (e, add-one, insert_at-take p n v l₀ I.place (omega arith))
 
--- ---- a loop that takes the entry at place p out: at place i, of the n live ones of the row l₀
-pub record Removing {A : Type 0} (d : A) (p n : ℕ) (l₀ : List A) (i : ℕ) (l : List A) : Type 0 where
+-- ---- a loop that takes the entry at place p out: at place i, of the n live ones of the row l₀, after m stores
+pub record Removing {A : Type 0} (d : A) (p n : ℕ) (l₀ : List A) (i m : ℕ) (l : List A) : Type 0 where
   pub place : p < n
   pub room : n ≤ length l₀
   pub from : p ≤ i
   pub to : i + 1 ≤ n
+  pub counted : p + m ≡ i
   pub slots : l ≡ weave i (remove_at p l₀) l₀
 
 module _ {A : Type 0} {d : A} {p n : ℕ} {l₀ : List A} where
-  pub remove_begin : p < n → n ≤ length l₀ → Removing d p n l₀ p l₀
-  remove_begin h k = record { place = h; room = k; from = omega arith; to = omega arith; slots = remove_at-start p l₀ (omega arith) }
+  pub remove_begin : p < n → n ≤ length l₀ → Removing d p n l₀ p 0 l₀
+  remove_begin h k = record { place = h; room = k; from = omega arith; to = omega arith; counted = omega arith; slots = remove_at-start p l₀ (omega arith) }
 
-  pub remove_turn : {i : ℕ} {l : List A} (e : A) → i < n - 1 → Removing d p n l₀ i l → Removing d p n l₀ (i + 1) (set l i (get_or l (i + 1) e))
+  pub remove_turn : {i m : ℕ} {l : List A} (e : A) → i < n - 1 → Removing d p n l₀ i m l → Removing d p n l₀ (i + 1) (m + 1) (set l i (get_or l (i + 1) e))
   remove_turn {i} e h R =
       let w = remove_at-length p l₀ (omega arith) in
       record {
@@ -164,6 +158,7 @@ module _ {A : Type 0} {d : A} {p n : ℕ} {l₀ : List A} where
         room = R.room;
         from = omega arith;
         to = omega arith;
+        counted = omega (arith, R.counted);
         slots = rw (
           R.slots,
           weave-later i (i + 1) (remove_at p l₀) l₀ e (omega arith) (omega arith) (omega arith),
@@ -174,7 +169,7 @@ module _ {A : Type 0} {d : A} {p n : ℕ} {l₀ : List A} where
             (weave_more i (remove_at p l₀) l₀ d (omega arith) (omega arith));
       }
 
-  pub remove_done : {i : ℕ} {l : List A} → n - 1 ≤ i → Removing d p n l₀ i l → set l (n - 1) d ≡ remove_at p (take n l₀) ++ d ∷ drop n l₀
+  pub remove_done : {i m : ℕ} {l : List A} → n - 1 ≤ i → Removing d p n l₀ i m l → set l (n - 1) d ≡ remove_at p (take n l₀) ++ d ∷ drop n l₀
   remove_done {i} h R =
       let m = n - 1 in
       let w = remove_at-length p l₀ (omega arith) in

@@ -1,6 +1,6 @@
 -- Sums over the slots below the count, whatever the length of the row: a blank adds nothing. What an operation does to them, as one case for each way out.
 -- Assumes nothing.
-use Rattle.std.specs.Prelude.{Some, None}
+use Rattle.std.specs.Prelude.{Some}
 use Rattle.numbers.specs.Choice.{on_some}
 use Prim.Native.Nat.{ℕ, zero, suc, ◌+◌, ◌-◌, ◌≤◌, ◌<◌}
 use mathlib.Core.Bool.{Bool, true, false}
@@ -13,8 +13,9 @@ use lib.Seq.{length-take-le, take_at, take_all, take-nil, take-take, get_or-take
 use borrow.Author.Tests.{ltb-true, ltb-false, leb-true, leb-false}
 use lib.Dec.{ltb, leb}
 use Rattle.std.proofs.lemmas.List.Quantifiers.{position-Some}
-use Rattle.lists.specs.Lists.{Put, Taken, insert_at, remove_at, found_in, below, live, placed, without, put_at, taken_at, entry_at, store_at, total}
+use Rattle.lists.specs.Lists.{Put, Taken, StoredAt, not_put, not_taken, insert_at, remove_at, found_in, below, live, placed, without, put_at, taken_at, entry_at, store_at, total}
 use Rattle.lists.proofs.Cases.{pick_case}
+use Rattle.lists.proofs.Exits.{put_ways, take_ways}
 use Rattle.lists.proofs.Loops.{insert_at-length, remove_at-length}
 use Rattle.lists.specs.declared.Arr.{Arr}
 
@@ -26,7 +27,7 @@ module _ {A : Type 0} where
   remove_most zero (x ∷ l) = omega arith
   remove_most (suc i) (x ∷ l) = let e = remove_most i l in omega arith
 
-  remove_front : (i : ℕ) (l m : List A) → i < length l → take i (remove_at i l ++ m) ≡ take i l
+  pub remove_front : (i : ℕ) (l m : List A) → i < length l → take i (remove_at i l ++ m) ≡ take i l
   unfolding remove_at
   remove_front i [] m h = absurd (not-suc-le-zero h)
   remove_front zero (x ∷ l) m h = refl
@@ -151,10 +152,8 @@ module _ {A : Type 0} {n : ℕ} (cap : ℕ) where
   added i v r w = record { room = omega arith; one_more = refl; sums = λ f. placed_total f i v r }
 
   pub put_case : (P : Put A n → Type 0) (i : ℕ) (v : A) (r : Arr A n)
-      → ((l : Arr A n) → Added cap v r l → P (record { ok = true; list = l })) → P (record { ok = false; list = r }) → P (put_at cap i v r)
-  unfolding put_at
-  put_case P i v r h k =
-      pick_case P (ltb r.count cap) _ _ (λ e. pick_case P (leb i r.count) _ _ (λ _. h (placed i v r) (added i v r (ltb-true _ _ e))) (λ _. k)) (λ _. k)
+      → ((l : Arr A n) → Added cap v r l → P (record { ok = true; stores = r.count - i + 1; list = l })) → P (not_put r) → P (put_at cap i v r)
+  put_case P i v r h k = put_ways cap P i v r (λ w _. h _ (added i v r w)) k
 
   took : (d : A) (i : ℕ) (r : Arr A n) → r.count ≤ cap → i < r.count → Took cap d i r (get_or r.slots i d) (without d i r)
   unfolding without
@@ -169,13 +168,9 @@ module _ {A : Type 0} {n : ℕ} (cap : ℕ) where
       }
 
   pub take_case : (P : Taken A n → Type 0) (d : A) (i : ℕ) (r : Arr A n)
-      → ((x : A) (l : Arr A n) → Took cap d i r x l → P (record { got = Some x; list = l }))
-      → ((r.count ≤ cap → r.count ≤ i) → P (record { got = None; list = r })) → P (taken_at cap d i r)
-  unfolding taken_at
-  take_case P d i r h k =
-      pick_case P (leb r.count cap) _ _
-      (λ e. pick_case P (ltb i r.count) _ _ (λ g. h _ _ (took d i r (leb-true _ _ e) (ltb-true _ _ g))) (λ g. k (λ _. ltb-false _ _ g)))
-      (λ e. k (λ n. let w : cap < r.count = leb-false _ _ e in absurd (omega arith)))
+      → ((x : A) (l : Arr A n) → Took cap d i r x l → P (record { got = Some x; stores = r.count - i; list = l }))
+      → ((r.count ≤ cap → r.count ≤ i) → P (not_taken r)) → P (taken_at cap d i r)
+  take_case P d i r h k = take_ways cap P d i r (λ n w. h _ _ (took d i r n w)) k
 
   pub entry_case : {B : Type 0} (P : B → Type 0) (d : A) (i : ℕ) (r : Arr A n) (k : A → B) (z : B)
       → (r.count ≤ cap → i < r.count → P (k (get_or r.slots i d))) → ((r.count ≤ cap → r.count ≤ i) → P z) → P (on_some (entry_at cap d i r) k z)
@@ -185,7 +180,7 @@ module _ {A : Type 0} {n : ℕ} (cap : ℕ) where
       (λ e. pick_case (λ o. P (on_some o k z)) (ltb i r.count) _ _ (λ w. h (leb-true _ _ e) (ltb-true _ _ w)) (λ w. g (λ _. ltb-false _ _ w)))
       (λ e. g (λ n. let w : cap < r.count = leb-false _ _ e in absurd (omega arith)))
 
-  pub store_case : (P : Put A n → Type 0) (i : ℕ) (v : A) (r : Arr A n)
+  pub store_case : (P : StoredAt A n → Type 0) (i : ℕ) (v : A) (r : Arr A n)
       → (r.count ≤ cap → i < r.count → P (record { ok = true; list = record { slots = set r.slots i v; count = r.count } })) → P (record { ok = false; list = r })
       → P (store_at cap i v r)
   unfolding store_at

@@ -3,26 +3,38 @@
 use Rattle.std.specs.Prelude.{ℕ, suc, ◌+◌, ◌-◌, Bool, true, false, List, [], ◌∷◌, ◌++◌, ltb, leb, take, drop, get_or, set, replicate, is_ok, Option, Some, None, Result}
 use Rattle.std.specs.List.{position, position_or_len}
 use Rattle.lists.specs.declared.Arr.{Arr}
+use Rattle.lists.specs.declared.Counted.{Counted}
 use Rattle.lists.specs.declared.Full.{Full}
 use Rattle.numbers.specs.Choice.{pick}
 
--- what putting an entry in answers: ok is false where it does not go in
+-- what putting an entry in answers: ok is false where it does not go in, and stores says how many slots were stored to
 pub record Put (A : Type 0) (n : ℕ) : Type 0 where
   pub ok : Bool
+  pub stores : ℕ
   pub list : Arr A n
 
 -- what taking an entry out answers
 pub record Taken (A : Type 0) (n : ℕ) : Type 0 where
   pub got : Option A
+  pub stores : ℕ
+  pub list : Arr A n
+
+-- what storing over an entry answers
+pub record StoredAt (A : Type 0) (n : ℕ) : Type 0 where
+  pub ok : Bool
   pub list : Arr A n
 
 -- what the code's answers say, beside the list that they leave
-abbrev pub put_of : {A : Type 0} {n : ℕ} → Result (Unit {0}) Full → Arr A n → Put A n
-put_of r l = record { ok = is_ok r; list = l }
+abbrev pub put_of : {A : Type 0} {n : ℕ} → Counted (Result (Unit {0}) Full) → Arr A n → Put A n
+put_of r l = record { ok = is_ok r.answer; stores = r.stores; list = l }
 
 -- and of one that takes an entry out
-abbrev pub taken_of : {A : Type 0} {n : ℕ} → Option A → Arr A n → Taken A n
-taken_of got l = record { got = got; list = l }
+abbrev pub taken_of : {A : Type 0} {n : ℕ} → Counted (Option A) → Arr A n → Taken A n
+taken_of r l = record { got = r.answer; stores = r.stores; list = l }
+
+-- and of one that stores over an entry
+abbrev pub stored_of : {A : Type 0} {n : ℕ} → Result (Unit {0}) Full → Arr A n → StoredAt A n
+stored_of r l = record { ok = is_ok r; list = l }
 
 -- no entry, and n blank slots
 abbrev pub empty : {A : Type 0} (n : ℕ) → A → Arr A n
@@ -62,12 +74,16 @@ module _ {A : Type 0} {n : ℕ} where
   unfoldable pub without : A → ℕ → Arr A n → Arr A n
   without blank i r = record { slots = remove_at i (below r) ++ blank ∷ drop r.count r.slots; count = r.count - 1 }
 
-  -- v goes in at place i, where there is room and i is no further than the first free slot
+  -- nothing went in
+  abbrev pub not_put : Arr A n → Put A n
+  not_put r = record { ok = false; stores = 0; list = r }
+
+  -- v goes in at place i, where there is room and i is no further than the first free slot: the entries from there on are stored, and one more
   unfoldable pub put_at : ℕ → ℕ → A → Arr A n → Put A n
   put_at cap i v r =
       pick (ltb r.count cap)
-      (pick (leb i r.count) (record { ok = true; list = placed i v r }) (record { ok = false; list = r }))
-      (record { ok = false; list = r })
+      (pick (leb i r.count) (record { ok = true; stores = r.count - i + 1; list = placed i v r }) (not_put r))
+      (not_put r)
 
   -- v goes in behind the last
   abbrev pub pushed : ℕ → A → Arr A n → Put A n
@@ -77,12 +93,16 @@ module _ {A : Type 0} {n : ℕ} where
   abbrev pub put_before : ℕ → (A → Bool) → A → Arr A n → Put A n
   put_before cap p v r = put_at cap (before p (live cap r)) v r
 
-  -- the entry at place i comes out
+  -- nothing came out
+  abbrev pub not_taken : Arr A n → Taken A n
+  not_taken r = record { got = None; stores = 0; list = r }
+
+  -- the entry at place i comes out: the entries behind it are stored, and a blank
   unfoldable pub taken_at : ℕ → A → ℕ → Arr A n → Taken A n
   taken_at cap blank i r =
       pick (leb r.count cap)
-      (pick (ltb i r.count) (record { got = Some (get_or r.slots i blank); list = without blank i r }) (record { got = None; list = r }))
-      (record { got = None; list = r })
+      (pick (ltb i r.count) (record { got = Some (get_or r.slots i blank); stores = r.count - i; list = without blank i r }) (not_taken r))
+      (not_taken r)
 
   -- the first comes out
   abbrev pub popped : ℕ → A → Arr A n → Taken A n
@@ -93,7 +113,7 @@ module _ {A : Type 0} {n : ℕ} where
   entry_at cap blank i r = pick (leb r.count cap) (pick (ltb i r.count) (Some (get_or r.slots i blank)) None) None
 
   -- the live entry at place i becomes v
-  unfoldable pub store_at : ℕ → ℕ → A → Arr A n → Put A n
+  unfoldable pub store_at : ℕ → ℕ → A → Arr A n → StoredAt A n
   store_at cap i v r =
       pick (leb r.count cap)
       (pick (ltb i r.count) (record { ok = true; list = record { slots = set r.slots i v; count = r.count } }) (record { ok = false; list = r }))

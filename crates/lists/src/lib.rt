@@ -2,7 +2,7 @@
 #![tactic(auto)]
 
 ghost use Rattle.std.specs.Prelude.{◌≡◌};
-ghost use Rattle.lists.specs.Lists.{empty, live, put_at, pushed, put_of, taken_at, popped, taken_of, entry_at, store_at, emptied};
+ghost use Rattle.lists.specs.Lists.{empty, live, put_at, pushed, put_of, stored_of, taken_at, popped, taken_of, entry_at, store_at, emptied};
 
 // An entry of a list. A slot that an entry has left becomes blank.
 // Beside std's `Default`, which says by a predicate what it may answer: a contract here has to name the one value.
@@ -16,6 +16,13 @@ pub trait Blank: Copy {
 // Why an entry did not go in: there is no room, or no such place. It is not printed: the kernel makes a halt of it.
 #[derive(Clone, Copy, Debug, PartialEq, Eq)]
 pub struct Full;
+
+// What an insertion or a removal answers, and to how many slots it stored: 0 where it did nothing.
+#[derive(Clone, Copy, Debug, PartialEq, Eq)]
+pub struct Counted<R> {
+    pub answer: R,
+    pub stores: usize,
+}
 
 // An array and its count, as a rule of the project has it: the slots behind the count are part of the state too.
 #[derive(Clone, Copy)]
@@ -57,51 +64,64 @@ impl<T: Blank, const N: usize> Arr<T, N> {
     }
 
     // Each entry from the place on moves one slot up: it is carried to its new slot by the one before it.
-    // By places, as a rule of the project has it: each entry shifts by one store, and the stores are to be counted where they are made; `copy_within` and `rotate_right` leave none to count.
-    pub fn insert(&mut self, at: usize, value: T) -> Result<(), Full>
+    // By places, as a rule of the project has it: each entry shifts by one store, and each store is counted where it is made; `copy_within` and `rotate_right` leave none to count.
+    pub fn insert(&mut self, at: usize, value: T) -> Counted<Result<(), Full>>
         ensures { put_of result self.new ≡ put_at N at value self.old }
     {
         let count = self.count;
+        let mut stores = 0;
         if count >= N || at > count {
-            return Err(Full);
+            return Counted {
+                answer: Err(Full),
+                stores,
+            };
         }
         let mut carry = value;
         for i in at..count + 1 {
             let held = self.slots[i];
             self.slots[i] = carry;
+            stores += 1;
             carry = held;
         }
         self.count = count + 1;
-        Ok(())
+        Counted {
+            answer: Ok(()),
+            stores,
+        }
     }
 
-    pub fn push(&mut self, value: T) -> Result<(), Full>
+    pub fn push(&mut self, value: T) -> Counted<Result<(), Full>>
         ensures { put_of result self.new ≡ pushed N value self.old }
     {
-        let count = self.count;
-        if count >= N {
-            return Err(Full);
-        }
-        self.slots[count] = value;
-        self.count = count + 1;
-        Ok(())
+        self.insert(self.count, value)
     }
 
     // Each entry behind the place moves one slot down, and the last live slot becomes blank: by places, as in `insert`.
-    pub fn remove(&mut self, at: usize) -> Option<T>
+    pub fn remove(&mut self, at: usize) -> Counted<Option<T>>
         ensures { taken_of result self.new ≡ taken_at N T.blank at self.old }
     {
-        let got = self.get(at)?;
+        let mut stores = 0;
+        let Some(got) = self.get(at) else {
+            return Counted {
+                answer: None,
+                stores,
+            };
+        };
         let last = self.count - 1;
         for i in at..last {
             self.slots[i] = self.slots[i + 1];
+            stores += 1;
         }
         self.slots[last] = T::blank();
+        stores += 1; // the blank too
         self.count = last;
-        Some(got)
+        Counted {
+            answer: Some(got),
+            stores,
+        }
     }
 
-    pub fn pop_front(&mut self) -> Option<T>
+    pub fn pop_front(&mut self) -> Counted<Option<T>>
         ensures { taken_of result self.new ≡ popped N T.blank self.old }
     {
         self.remove(0)
@@ -109,7 +129,7 @@ impl<T: Blank, const N: usize> Arr<T, N> {
 
     // The live entry at a place becomes another.
     pub fn store(&mut self, at: usize, value: T) -> Result<(), Full>
-        ensures { put_of result self.new ≡ store_at N at value self.old }
+        ensures { stored_of result self.new ≡ store_at N at value self.old }
     {
         if self.count > N || at >= self.count {
             return Err(Full);

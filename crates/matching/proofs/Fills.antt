@@ -6,8 +6,8 @@ use borrow.Author.Tests.{eq-eqb, ne_eqb}
 use Rattle.std.specs.Prelude.{Option, Some, None, Result, Ok, Err, ok_or}
 use Rattle.numbers.specs.Choice.{pick, on_some}
 use Rattle.numbers.specs.Words.{fitting}
-use Rattle.lists.specs.Lists.{Put, entry_at, store_at, put_of}
-use Rattle.lists.proofs.Cases.{some_case, different}
+use Rattle.lists.specs.Lists.{StoredAt, entry_at, store_at, stored_of}
+use Rattle.lists.proofs.Cases.{some_case, different, none_of}
 use Rattle.lists.specs.declared.Full.{Full}
 use Rattle.book.specs.Capacities.{orders_capacity}
 use Rattle.book.specs.Entries.{blank_order, remaining}
@@ -34,7 +34,7 @@ use Rattle.reports.specs.Report.{stamp_of}
 use Rattle.reports.specs.declared.Stop.{Stop}
 use Rattle.reports.specs.declared.Stop.TheVariants as stop
 use Rattle.reports.specs.declared.report.Stamped.{Stamped}
-use Rattle.reports.proofs.Then.{none_of, quiet_on, quiet_stop, then_on, then_stop, ran_here, halted_here, raise_here}
+use Rattle.reports.proofs.Then.{quiet_on, quiet_stop, then_on, then_stop, ran_here, halted_here, raise_here}
 
 -- a stamp takes no execution number
 stamp_exec : (s t : KernelState) → ran_to t ≡ stamp s → t.seqs.next_exec_id ≡ s.seqs.next_exec_id
@@ -102,14 +102,14 @@ module _ (l m : Logged) (c : Config) (i : ℕ) (o : VenueOrder) (n : ℕ) (s t :
 
   pub fill_reported : {a : Stamped} {rec : FillRec} {filled : VenueOrder} {kind : ExecKind} {r : ReportRec} {os : Orders} (stored : Result (Unit {0}) Full) {x : StepResult}
       → actual (Ok tt) t m ≡ expected l (fill_event o n s) → ◌≡◌ {A = Stamped × FillRec} (a, rec) (stamp_of s, fill_record s o n) → filled ≡ filled_by n o → kind ≡ fill_kind n o
-      → r ≡ report_at a.ts_ns a.seq filled kind o.cancel_inflight n → put_of stored os ≡ store_at orders_capacity i filled t.orders
+      → r ≡ report_at a.ts_ns a.seq filled kind o.cancel_inflight n → stored_of stored os ≡ store_at orders_capacity i filled t.orders
       → x ≡ expected m (queue_delivery c r (Some rec) (with_orders t os)) → x ≡ expected l (fill_at c i o n s)
   unfolding fill_at fill_report
   fill_reported {a} {rec} {filled} {kind} {r} {os} stored e et ef ek er es p =
       let ea : a ≡ stamp_of s = ap (λ (z : Stamped × FillRec). z.0) et in
       let eb : rec ≡ fill_record s o n = ap (λ (z : Stamped × FillRec). z.1) et in
       let hr : r ≡ fill_report s o n = er ∙ rw (ea, ef, ek) in
-      let hs : os ≡ (store_at orders_capacity i (filled_by n o) t.orders).list = ap (λ (z : Put VenueOrder 8). z.list) es ∙ rw ef in
+      let hs : os ≡ (store_at orders_capacity i (filled_by n o) t.orders).list = ap (λ (z : StoredAt VenueOrder 8). z.list) es ∙ rw ef in
       then_on l _ _ e (rw (hr, eb, hs) at p)
 
 -- ---- what the row fills at one place

@@ -9,7 +9,9 @@ use Rattle.std.specs.Prelude.{Option, Some, None, Result, Ok, Err, ok_or}
 use Rattle.numbers.specs.Choice.{pick, on_some}
 use Rattle.numbers.specs.Words.{fitting}
 use Rattle.lists.specs.Lists.{entry_at, taken_at, taken_of}
+use Rattle.lists.proofs.Cases.{none_of}
 use Rattle.lists.proofs.Exits.{entry_over, none_same}
+use Rattle.lists.specs.declared.Counted.{Counted}
 use Rattle.book.specs.Capacities.{orders_capacity}
 use Rattle.book.specs.Entries.{blank_order}
 use Rattle.orders.specs.Rows.{Orders}
@@ -27,7 +29,7 @@ use Rattle.rules.specs.Matching.{fills_at, match_at, match_from, leave, terminal
 use Rattle.reports.specs.Log.{Logged, expected, actual, halting, run_of}
 use Rattle.reports.specs.declared.Stop.{Stop}
 use Rattle.reports.specs.declared.Stop.TheVariants as stop
-use Rattle.reports.proofs.Then.{none_of, quiet, then_on, then_stop, ran_here, halted_here}
+use Rattle.reports.proofs.Then.{quiet, then_on, then_stop, ran_here, halted_here}
 
 -- ---- where no turn does anything: the count is above the capacity, and no order stands at any place
 match_idle : (c : Config) (row : KernelTick) (s : KernelState) → ((i : ℕ) → match_at c row i s ≡ ran_to s) → (k i : ℕ) → match_from c row k i s ≡ ran_to s
@@ -92,15 +94,15 @@ module _ (c : Config) (row : KernelTick) (n i : ℕ) (l : Logged) (s : KernelSta
     pass_stop e = then_stop l _ _ e ∙ ap (expected l) (sym match_turn)
 
 -- ---- an order that leaves
-module _ (i : ℕ) (s : KernelState) {l : Orders} where
-  pub leave_none : taken_of None l ≡ taken_at orders_capacity blank_order i s.orders → ran_to (with_orders s l) ≡ leave i s
+module _ (i : ℕ) (s : KernelState) {a : Counted (Option VenueOrder)} {l : Orders} where
+  pub leave_none : a.answer ≡ None → taken_of a l ≡ taken_at orders_capacity blank_order i s.orders → ran_to (with_orders s l) ≡ leave i s
   unfolding leave taking on_some
-  leave_none e = rw (none_same orders_capacity s.orders blank_order i l e, ← e)
+  leave_none q e = rw (none_same orders_capacity s.orders blank_order i q e, ← e, q)
 
-  pub leave_on : {o : VenueOrder} {t : KernelState} (u : KernelState) (r : Result (Unit {0}) HaltReason) → taken_of (Some o) l ≡ taken_at orders_capacity blank_order i s.orders
+  pub leave_on : {o : VenueOrder} {t : KernelState} (u : KernelState) (r : Result (Unit {0}) HaltReason) → a.answer ≡ Some o → taken_of a l ≡ taken_at orders_capacity blank_order i s.orders
       → t ≡ remove_expiry o.id (with_orders s l) → run_of r u ≡ await_marked o t → run_of r u ≡ leave i s
   unfolding leave taking on_some
-  leave_on u r e h k = rw (← e, ← h) k
+  leave_on u r q e h k = rw (← e, q, ← h) k
 
 -- ---- the sweep: n looks in all, i before this one
 module _ (n i place : ℕ) (s : KernelState) where

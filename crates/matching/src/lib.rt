@@ -154,7 +154,7 @@ fn terminal_at(place: usize, s: &KernelState) -> bool
 fn leave(place: usize, s: &mut KernelState) -> Result<(), HaltReason>
     ensures { run_of result s.new ≡ leave place s.old }
 {
-    let Some(order) = s.orders.remove(place) else {
+    let Some(order) = s.orders.remove(place).answer else {
         return Ok(());
     };
     remove_expiry(s, order.id);

@@ -7,7 +7,7 @@ ghost use Rattle.book.specs.Capacities.{msgs_capacity};
 ghost use Rattle.book.specs.Entries.{is_later, is_activation, is_expiry};
 
 use book::VenueMsg;
-use lists::{Arr, Full};
+use lists::{Arr, Counted, Full};
 
 pub const CAPACITY: usize = 16;
 
@@ -28,7 +28,7 @@ pub fn expiry(msgs: &Msgs, id: u64) -> Option<usize>
 }
 
 // Before the first with a greater pair, else behind the last. It differs from `orders::insert_by_id` in the test alone, and why no method takes the test is said there.
-pub fn insert_by_key(msgs: &mut Msgs, msg: VenueMsg) -> Result<(), Full>
+pub fn insert_by_key(msgs: &mut Msgs, msg: VenueMsg) -> Counted<Result<(), Full>>
     ensures { put_of result msgs.new ≡ put_before msgs_capacity (is_later msg.eff_ns msg.seq) msg msgs.old }
 {
     let live = msgs.as_slice();

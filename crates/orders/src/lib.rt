@@ -7,7 +7,7 @@ ghost use Rattle.book.specs.Capacities.{orders_capacity};
 ghost use Rattle.book.specs.Entries.{is_open, has_id, id_above};
 
 use book::VenueOrder;
-use lists::{Arr, Full};
+use lists::{Arr, Counted, Full};
 
 pub const CAPACITY: usize = 8;
 
@@ -28,7 +28,7 @@ pub fn position(orders: &Orders, id: u64) -> Option<usize>
 }
 
 // Before the first of a greater number, else behind the last: the Rust's insert_by_id. It differs from `msgs::insert_by_key` in the test alone. No public function has a `requires`, as a rule of the project has it, so no method takes the test; a trait for two tests would be longer than what the two share.
-pub fn insert_by_id(orders: &mut Orders, order: VenueOrder) -> Result<(), Full>
+pub fn insert_by_id(orders: &mut Orders, order: VenueOrder) -> Counted<Result<(), Full>>
     ensures { put_of result orders.new ≡ put_before orders_capacity (id_above order.id) order orders.old }
 {
     let live = orders.as_slice();

@@ -6,12 +6,13 @@ use mathlib.Core.Path.{◌≡◌, ap, ◌∙◌}
 use lib.Dec.{ltb}
 use lib.ListN.{length}
 use borrow.Author.Tests.{le-leb, lt-leb, ltb-true}
-use Rattle.std.specs.Prelude.{Option, Some, None, Ok, Err, is_some}
+use Rattle.std.specs.Prelude.{Option, Some, None, Result, Ok, Err, is_some}
 use Rattle.numbers.specs.Choice.{pick}
 use Rattle.numbers.specs.Words.{fits, fitting}
 use Rattle.lists.specs.Lists.{put_of, pushed}
 use Rattle.lists.proofs.Cases.{pick_case, on_true, on_false, on_none, on_one, different}
 use Rattle.lists.proofs.Exits.{full_same}
+use Rattle.lists.specs.declared.Counted.{Counted}
 use Rattle.lists.specs.declared.Full.{Full}
 use Rattle.book.specs.Capacities.{observed_capacity}
 use Rattle.book.specs.declared.ObsEntry.{ObsEntry}
@@ -55,17 +56,17 @@ module _ (c : Config) (i : ℕ) (row : KernelTick) (s : KernelState) {t : Kernel
     queued ready l = with_control (with_observed (clocked ready) l) (control_phase t.control ObsQueued)
 
     -- there is no room
-    pub observed_full : {l : Observed} {f : Full} → put_of (Err f) l ≡ pushed observed_capacity (entry q) t.observed → halt_at CounterOverflow (with_observed (clocked q) l) ≡ queue_observation c i row s
+    pub observed_full : {l : Observed} {f : Full} {a : Counted (Result (Unit {0}) Full)} → a.answer ≡ Err f → put_of a l ≡ pushed observed_capacity (entry q) t.observed → halt_at CounterOverflow (with_observed (clocked q) l) ≡ queue_observation c i row s
     unfolding queue_observation
-    observed_full {l = l} {f = f} p =
-        ap (λ x. halt_at CounterOverflow (with_observed (clocked q) x)) (full_same observed_capacity t.observed t.observed.count (entry q) f l p)
-        ∙ put_full (pushed observed_capacity (entry q) t.observed) (queued q) (clocked q) p
+    observed_full g p =
+        ap (λ x. halt_at CounterOverflow (with_observed (clocked q) x)) (full_same observed_capacity t.observed t.observed.count (entry q) g p)
+        ∙ put_full (pushed observed_capacity (entry q) t.observed) (queued q) (clocked q) g p
         ∙ ap (λ x. putting (pushed observed_capacity (entry x) t.observed) (queued x) (clocked x)) hq ∙ e _
 
-    pub observed_in : {l : Observed} → put_of (Ok tt) l ≡ pushed observed_capacity (entry q) t.observed → ran_to (queued q l) ≡ queue_observation c i row s
+    pub observed_in : {l : Observed} {a : Counted (Result (Unit {0}) Full)} → a.answer ≡ Ok tt → put_of a l ≡ pushed observed_capacity (entry q) t.observed → ran_to (queued q l) ≡ queue_observation c i row s
     unfolding queue_observation
-    observed_in p =
-        put_on (pushed observed_capacity (entry q) t.observed) (queued q) (clocked q) p
+    observed_in g p =
+        put_on (pushed observed_capacity (entry q) t.observed) (queued q) (clocked q) g p
         ∙ ap (λ x. putting (pushed observed_capacity (entry x) t.observed) (queued x) (clocked x)) hq ∙ e _
 
 -- ---- BeforeMatch

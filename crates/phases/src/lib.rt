@@ -42,7 +42,7 @@ fn queue_observation(
         ready_ns,
         row: index,
     };
-    s.observed.push(entry)?;
+    s.observed.push(entry).answer?;
     s.control.phase = Phase::ObsQueued;
     Ok(())
 }

@@ -4,6 +4,7 @@ use mathlib.Core.Path.{◌≡◌, refl, ap, ◌∙◌}
 use Rattle.std.specs.Prelude.{Option, Some, None, Result, Err, ok_or}
 use Rattle.numbers.specs.Choice.{on_some}
 use Rattle.lists.specs.Lists.{put_of, pushed}
+use Rattle.lists.specs.declared.Counted.{Counted}
 use Rattle.lists.specs.declared.Full.{Full}
 use Rattle.book.specs.Capacities.{deliveries_capacity}
 use Rattle.book.specs.declared.Delivery.{Delivery}
@@ -37,14 +38,14 @@ module _ (c : Config) (r : ReportRec) (f : Option FillRec) (s : KernelState) (t 
   report_late e = quiet_stop l _ _ (e _)
 
   -- the report is told, and its delivery goes to the others if there is room
-  pub report_sent : {at q : ℕ} {m : Logged} {d : Deliveries} (o : Result (Unit {0}) Full) → ((k : ℕ → KernelState → Run) → k at t ≡ delayed c r.ts_ns c.ack_q s k)
+  pub report_sent : {at q : ℕ} {m : Logged} {d : Deliveries} (o : Result (Unit {0}) Full) {a : Counted (Result (Unit {0}) Full)} → ((k : ℕ → KernelState → Run) → k at t ≡ delayed c r.ts_ns c.ack_q s k)
       → q ≡ max at t.clock.last_delivery_ns → m ≡ append_event l (Report r)
-      → put_of o d ≡ pushed deliveries_capacity (record { at_ns = q; report = r; fill = f }) t.deliveries
+      → a.answer ≡ o → put_of a d ≡ pushed deliveries_capacity (record { at_ns = q; report = r; fill = f }) t.deliveries
       → actual (halting (full_halts o)) (with_deliveries (with_clock t (clock_last_delivery_ns t.clock q)) d) m ≡ expected l (queue_delivery c r f s)
   unfolding queue_delivery reported push_delivery
-  report_sent {at = at} {q = q} {m = m} {d = d} o e hq hm hd =
+  report_sent {at = at} {q = q} {m = m} {d = d} o e hq hm ho hd =
       let u : KernelState = with_clock t (clock_last_delivery_ns t.clock q) in
       let x : Delivery = record { at_ns = q; report = r; fill = f } in
       then_on l (reported c r s) (λ v. push_delivery (record { at_ns = v.clock.last_delivery_ns; report = r; fill = f }) v)
       (raise_here l m (Report r) u hm ∙ ap (expected l) (ap (λ y. raised (Report r) (with_clock t (clock_last_delivery_ns t.clock y))) hq ∙ e _))
-      (quiet m (full_halts o) (with_deliveries u d) (put_run deliveries_capacity t.deliveries.count x t.deliveries (λ y. with_deliveries u y) u o refl hd))
+      (quiet m (full_halts o) (with_deliveries u d) (put_run deliveries_capacity t.deliveries.count x t.deliveries (λ y. with_deliveries u y) u o refl ho hd))

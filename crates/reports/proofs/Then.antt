@@ -2,12 +2,13 @@
 use Prim.Native.Nat.{ℕ}
 use mathlib.Core.Path.{◌≡◌, refl, sym, ap, ◌∙◌}
 use mathlib.Core.List.{List, ◌++◌, append_assoc}
-use Rattle.std.specs.Prelude.{Option, Some, None, Result, Ok, Err, ok_or, IsErr, IsErrAnd}
+use Rattle.std.specs.Prelude.{Option, Some, None, Result, Ok, Err, IsErr, IsErrAnd}
 use Rattle.numbers.specs.Choice.{pick, on_some}
 use Rattle.lists.proofs.Cases.{different}
 use Rattle.lists.specs.Lists.{Put, Taken, put_of, taken_of, put_at}
 use Rattle.lists.proofs.Exits.{full_same}
 use Rattle.lists.specs.declared.Arr.{Arr}
+use Rattle.lists.specs.declared.Counted.{Counted}
 use Rattle.lists.specs.declared.Full.{Full}
 use Rattle.state.specs.declared.HaltReason.{HaltReason}
 use Rattle.state.specs.declared.HaltReason.TheVariants.{CounterOverflow}
@@ -18,15 +19,6 @@ use Rattle.reports.specs.Log.{Logged, append_event, append_events, outcome_of, S
 use Rattle.reports.specs.declared.Stop.{Stop}
 use Rattle.reports.specs.declared.Stop.TheVariants as stop
 use Rattle.reports.proofs.Append.{appended_append}
-
--- ---- what an `ok_or` found
-pub some_of : {A E : Type 0} (o : Option A) (h : E) {x : A} → Ok x ≡ ok_or o h → o ≡ Some x
-some_of (Some y) h e = cc
-some_of None h e = different cc
-
-pub none_of : {A E : Type 0} (o : Option A) {h e : E} → Err e ≡ ok_or o h → (o ≡ None) × (e ≡ h)
-none_of (Some y) q = different cc
-none_of None q = (refl, cc)
 
 -- ---- the error that a `?` hands on
 pub is_the_error : {A E : Type 0} {r : Result A E} {e : E} → IsErr r × IsErrAnd r (λ x. x ≡ e) → r ≡ Err e
@@ -132,25 +124,25 @@ then_outer r f g (rules.ended ms) e = rw e
 pub then_then : (r : rules.Run) (f g : KernelState → rules.Run) → rules.and_then (rules.and_then r f) g ≡ rules.and_then r (λ u. rules.and_then (f u) g)
 then_then r f g = then_outer r f g r.outcome refl
 
--- ---- an entry that comes out of a list: p is what the rules say comes out, l₁ the list that is left
-module _ {A : Type 0} {n : ℕ} (l : Logged) (p : Taken A n) (k : A → Arr A n → rules.Run) (z : rules.Run) {l₁ : Arr A n} where
-  pub take_on : {y : A} → taken_of (Some y) l₁ ≡ p → {x : StepResult} → x ≡ expected l (k y l₁) → x ≡ expected l (rules.taking p k z)
+-- ---- an entry that comes out of a list: p is what the rules say comes out, a what the code answers, l₁ the list that is left
+module _ {A : Type 0} {n : ℕ} (l : Logged) (p : Taken A n) (k : A → Arr A n → rules.Run) (z : rules.Run) {a : Counted (Option A)} {l₁ : Arr A n} where
+  pub take_on : {y : A} → a.answer ≡ Some y → taken_of a l₁ ≡ p → {x : StepResult} → x ≡ expected l (k y l₁) → x ≡ expected l (rules.taking p k z)
   unfolding on_some rules.taking
-  take_on h c = rw (← h) c
+  take_on e h c = rw (← h, e) c
 
-  pub take_none : taken_of None l₁ ≡ p → {x : StepResult} → x ≡ expected l z → x ≡ expected l (rules.taking p k z)
+  pub take_none : a.answer ≡ None → taken_of a l₁ ≡ p → {x : StepResult} → x ≡ expected l z → x ≡ expected l (rules.taking p k z)
   unfolding on_some rules.taking
-  take_none h c = rw (← h) c
+  take_none e h c = rw (← h, e) c
 
 -- ---- an entry that goes into a list: a full list halts
-module _ {A : Type 0} {n : ℕ} (p : Put A n) (k : Arr A n → KernelState) (s : KernelState) {l₁ : Arr A n} where
-  pub put_on : {v : Unit {0}} → put_of (Ok v) l₁ ≡ p → rules.ran_to (k l₁) ≡ rules.putting p k s
+module _ {A : Type 0} {n : ℕ} (p : Put A n) (k : Arr A n → KernelState) (s : KernelState) {a : Counted (Result (Unit {0}) Full)} {l₁ : Arr A n} where
+  pub put_on : {v : Unit {0}} → a.answer ≡ Ok v → put_of a l₁ ≡ p → rules.ran_to (k l₁) ≡ rules.putting p k s
   unfolding pick rules.putting
-  put_on h = rw (← h)
+  put_on e h = rw (← h, e)
 
-  pub put_full : {f : Full} → put_of (Err f) l₁ ≡ p → rules.halt_at CounterOverflow s ≡ rules.putting p k s
+  pub put_full : {f : Full} → a.answer ≡ Err f → put_of a l₁ ≡ p → rules.halt_at CounterOverflow s ≡ rules.putting p k s
   unfolding pick rules.putting
-  put_full h = rw (← h)
+  put_full e h = rw (← h, e)
 
 -- a list that does not take an entry halts
 abbrev pub full_halts : Result (Unit {0}) Full → Result (Unit {0}) HaltReason
@@ -158,7 +150,7 @@ full_halts (Ok v) = Ok tt
 full_halts (Err f) = Err CounterOverflow
 
 -- what the code leaves, whether the entry went in or not: k puts a list into the state s, whose list is r
-pub put_run : {A : Type 0} {n : ℕ} (cap i : ℕ) (v : A) (r : Arr A n) (k : Arr A n → KernelState) (s : KernelState) (o : Result (Unit {0}) Full) {l₁ : Arr A n}
-    → k r ≡ s → put_of o l₁ ≡ put_at cap i v r → run_of (full_halts o) (k l₁) ≡ rules.putting (put_at cap i v r) k s
-put_run cap i v r k s (Ok u) e h = put_on (put_at cap i v r) k s h
-put_run cap i v r k s (Err f) {l₁ = l₁} e h = ap (λ x. rules.halt_at CounterOverflow (k x)) (full_same cap r i v f l₁ h) ∙ (ap (rules.halt_at CounterOverflow) e ∙ put_full (put_at cap i v r) k s h)
+pub put_run : {A : Type 0} {n : ℕ} (cap i : ℕ) (v : A) (r : Arr A n) (k : Arr A n → KernelState) (s : KernelState) (o : Result (Unit {0}) Full) {a : Counted (Result (Unit {0}) Full)} {l₁ : Arr A n}
+    → k r ≡ s → a.answer ≡ o → put_of a l₁ ≡ put_at cap i v r → run_of (full_halts o) (k l₁) ≡ rules.putting (put_at cap i v r) k s
+put_run cap i v r k s (Ok u) e q h = put_on (put_at cap i v r) k s q h
+put_run cap i v r k s (Err f) e q h = ap (λ x. rules.halt_at CounterOverflow (k x)) (full_same cap r i v q h) ∙ (ap (rules.halt_at CounterOverflow) e ∙ put_full (put_at cap i v r) k s q h)

@@ -79,10 +79,11 @@ pub fn queue_delivery(
     let at_ns = delayed(cfg, s, report.ts_ns, cfg.ack_q)?.max(s.clock.last_delivery_ns);
     s.clock.last_delivery_ns = at_ns;
     log.emit(KernelEvent::Report(report));
-    s.deliveries.push(Delivery {
+    let delivery = Delivery {
         at_ns,
         report,
         fill,
-    })?;
+    };
+    s.deliveries.push(delivery).answer?;
     Ok(())
 }

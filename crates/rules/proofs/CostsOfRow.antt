@@ -6,7 +6,7 @@ use native.Mathlib.Omega.{arith}
 use lib.Dec.{ltb, leb}
 use lib.ListN.{length, length-append, length-map, length-take}
 use borrow.Author.Tests.{ltb-true}
-use Rattle.lists.specs.Lists.{Put, below, live, store_at, emptied, total}
+use Rattle.lists.specs.Lists.{StoredAt, below, live, store_at, emptied, total}
 use Rattle.lists.proofs.Cases.{pick_case, some_case}
 use Rattle.lists.proofs.Sums.{store_case}
 use Rattle.state.specs.With.{with_orders, control_phase}
@@ -31,7 +31,7 @@ use Rattle.rules.proofs.Paid.{Paid, stops_on, opened, closed, pays_less, raise_p
 use Rattle.lists.specs.declared.Arr.{Arr}
 
 stored-few : (i h : ℕ) (o : VenueOrder) (r : Arr VenueOrder 8) → r.count ≤ h → (store_at 8 i o r).list.count ≤ h
-stored-few i h o r w = store_case 8 (λ (q : Put VenueOrder 8). q.list.count ≤ h) i o r (λ _ _. w) w
+stored-few i h o r w = store_case 8 (λ (q : StoredAt VenueOrder 8). q.list.count ≤ h) i o r (λ _ _. w) w
 
 module _ {k : Control} {h o w : ℕ} where
   -- ---- a row over the orders: a fill raises two events, its own and its report, and sends a delivery

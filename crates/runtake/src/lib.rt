@@ -59,7 +59,7 @@ fn queue(msgs: &mut Msgs, eff_ns: u64, kind: MsgKind) -> Result<(), BadLine>
     ensures keeps { OnErr result (msgs.new ≡ msgs.old) }
 {
     let seq = msgs.count as u64;
-    insert_by_key(msgs, VenueMsg { eff_ns, seq, kind })?;
+    insert_by_key(msgs, VenueMsg { eff_ns, seq, kind }).answer?;
     Ok(())
 }
 
@@ -154,10 +154,11 @@ impl<'a> Reading<'a> {
         }
         let lots = self.lots.reserve(order.side, order.qty).ok_or(BadLine)?;
         let mut account = self.account;
-        account.push(OpenOrder {
+        let opened = OpenOrder {
             order_id: order.id,
             awaiting_cancel_outcome: false,
-        })?;
+        };
+        account.push(opened).answer?;
         let activation = MsgKind::Activate { order, life };
         queue(&mut self.msgs, order.active_after_ns, activation)?;
         self.lots = lots;

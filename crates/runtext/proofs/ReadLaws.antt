@@ -1,7 +1,6 @@
 -- The steps of reading a run file. Assumes nothing.
 use Rattle.std.specs.Prelude.{Option, Some, None, Result, Ok, Err}
 use Rattle.std.specs.List.{All, IsFirstMatchOrLen}
-use Rattle.std.specs.Option.{ok_or}
 use Rattle.std.specs.Result.{result_or}
 use Prim.Native.Nat.{ℕ, ◌+◌, ◌≤◌, ◌<◌, min}
 use mathlib.Core.Path.{◌≡◌, refl, sym, ap, ◌∙◌}
@@ -83,10 +82,6 @@ module _ (n : ℕ) (r : Reading) where
     line_bad f = rw (next_part, ← f)
 
 -- ---- how a line ended, with the fault that it is where it is bad
-pub no_line : {A : Type 0} (line : Option A) (fault f : Fault) → Err f ≡ ok_or line fault → f ≡ fault
-no_line None fault f e = cc
-no_line (Some x) fault f e = different cc
-
 pub is_taken : (result : Result (Unit {0}) BadLine) (old new : code.Reading) (fault : Fault) {v : Unit {0}} {o : Option Reading} → Takes result old new o → Ok v ≡ result_or result (Err fault) → Some (reading_of new) ≡ o
 is_taken (Ok u) old new fault t e = t.0
 is_taken (Err b) old new fault t e = different cc

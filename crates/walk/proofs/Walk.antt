@@ -2,10 +2,11 @@
 use Prim.Native.Nat.{ℕ, ◌<◌, ◌≤◌, max}
 use mathlib.Core.Path.{◌≡◌, refl, sym, ap, ◌∙◌}
 use borrow.Author.Tests.{lt-leb, le-leb}
-use Rattle.std.specs.Prelude.{Some, None, Ok, Err}
+use Rattle.std.specs.Prelude.{Option, Some, None, Ok, Err}
 use Rattle.numbers.specs.Choice.{pick}
 use Rattle.lists.specs.Lists.{popped, taken_of}
 use Rattle.lists.proofs.Exits.{none_same}
+use Rattle.lists.specs.declared.Counted.{Counted}
 use Rattle.book.specs.Entries.{blank_obs}
 use Rattle.book.specs.declared.ObsEntry.{ObsEntry}
 use Rattle.book.specs.declared.config.Config.{Config}
@@ -23,22 +24,22 @@ use Rattle.reports.specs.declared.Stop.TheVariants as stop
 use Rattle.reports.proofs.Then.{ran_here, ran_there, then_on, then_stop, take_on, take_none}
 
 -- ---- an observation
-pub pop_none : (c : Config) (l : Logged) (s : KernelState) (q : Observed) → taken_of None q ≡ popped 16 blank_obs s.observed → actual (Ok tt) (with_observed s q) l ≡ expected l (pop_observation c s)
+pub pop_none : (c : Config) (l : Logged) (s : KernelState) (q : Observed) {a : Counted (Option ObsEntry)} → a.answer ≡ None → taken_of a q ≡ popped 16 blank_obs s.observed → actual (Ok tt) (with_observed s q) l ≡ expected l (pop_observation c s)
 unfolding pop_observation
-pop_none c l s q h =
-    take_none l (popped 16 blank_obs s.observed) _ _ h
-    (ap (λ y. actual (Ok tt) (with_observed s y) l) (none_same 16 s.observed blank_obs 0 q h) ∙ ran_here l s)
+pop_none c l s q e h =
+    take_none l (popped 16 blank_obs s.observed) _ _ e h
+    (ap (λ y. actual (Ok tt) (with_observed s y) l) (none_same 16 s.observed blank_obs 0 e h) ∙ ran_here l s)
 
 -- e came out, and q is the rest
-module _ (c : Config) (l : Logged) (s : KernelState) (e : ObsEntry) (q : Observed) (h : taken_of (Some e) q ≡ popped 16 blank_obs s.observed) where
+module _ (c : Config) (l : Logged) (s : KernelState) (e : ObsEntry) (q : Observed) {a : Counted (Option ObsEntry)} (p : a.answer ≡ Some e) (h : taken_of a q ≡ popped 16 blank_obs s.observed) where
   pub pop_over : {k : Control} → c.s_max ≤ s.control.step → k ≡ truncated s.control → actual (Err stop.Left) (with_control (with_observed s q) k) l ≡ expected l (pop_observation c s)
   unfolding pop_observation pick expected append_events
-  pop_over g hk = take_on l (popped 16 blank_obs s.observed) _ _ h (rw (le-leb c.s_max s.control.step g, hk))
+  pop_over g hk = take_on l (popped 16 blank_obs s.observed) _ _ p h (rw (le-leb c.s_max s.control.step g, hk))
 
   pub pop_pauses : {m : Logged} {k : Control} → s.control.step < c.s_max → m ≡ append_event l (event.Observed e.row s.clock.now_ns) → k ≡ paused_at s.control
       → actual (Err stop.Left) (with_agent (with_control (with_observed s q) k) (agent_last_obs_row s.agent (Some e.row))) m ≡ expected l (pop_observation c s)
   unfolding pop_observation pick expected append_events
-  pop_pauses g hm hk = take_on l (popped 16 blank_obs s.observed) _ _ h (rw (lt-leb c.s_max s.control.step g, hk, hm))
+  pop_pauses g hm hk = take_on l (popped 16 blank_obs s.observed) _ _ p h (rw (lt-leb c.s_max s.control.step g, hk, hm))
 
 -- ---- the walk: nothing is due
 pub walk_done : (c : Config) (limit : ℕ) (l : Logged) (s : KernelState) → nothing ≡ next_of limit s → actual (Ok tt) s l ≡ expected l (run_events c limit s)

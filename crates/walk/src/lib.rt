@@ -61,7 +61,7 @@ fn next_of(limit: u64, s: &KernelState) -> Option<Due>
 fn pop_observation(cfg: &Config, s: &mut KernelState, log: &mut Log) -> Result<(), Stop>
     ensures { actual result s.new (log_of log.new) ≡ expected (log_of log.old) (pop_observation cfg.now s.old) }
 {
-    let Some(entry) = s.observed.pop_front() else {
+    let Some(entry) = s.observed.pop_front().answer else {
         return Ok(());
     };
     if s.control.step >= cfg.s_max {

@@ -1,7 +1,7 @@
 -- `phases::before_match` meets its contract, by the laws of `Exits`. Assumes nothing.
 use mathlib.Core.Path.{sym, ◌∙◌}
+use Rattle.lists.proofs.Cases.{some_of, none_of}
 use Rattle.reports.proofs.Then.{hands_stop}
-use Rattle.reports.proofs.Then.{some_of, none_of}
 use Rattle.phases.proofs.Exits.{match_nowhere, match_no_row, match_walked, match_halted, match_unseen, match_seen}
 use Rattle.phases.proofs.before_match.Goals as goal
 

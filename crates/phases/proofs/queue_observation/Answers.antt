@@ -7,7 +7,7 @@ pub returns-in_err-at_ns : goal.returns-in_err-at_ns
 returns-in_err-at_ns c = hands_on_quiet _ c.from_residual.ensures (observed_late _ _ _ _ c.in_err-at_ns.ensures)
 
 pub returns-in_err-push : goal.returns-in_err-push
-returns-in_err-push c = hands_on_quiet _ c.from_residual-in_err-push.ensures (observed_full _ _ _ _ c.in_ok-at_ns.ensures c.max-ready_ns.ensures c.in_err-push.ensures)
+returns-in_err-push c = hands_on_quiet _ c.from_residual-in_err-push.ensures (observed_full _ _ _ _ c.in_ok-at_ns.ensures c.max-ready_ns.ensures c.in_err-push.was c.push.ensures)
 
 pub returns : goal.returns
-returns c = observed_in _ _ _ _ c.in_ok-at_ns.ensures c.max-ready_ns.ensures c.in_ok-push.ensures
+returns c = observed_in _ _ _ _ c.in_ok-at_ns.ensures c.max-ready_ns.ensures c.in_ok-push.was c.push.ensures

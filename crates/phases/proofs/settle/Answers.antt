@@ -1,7 +1,7 @@
 -- `phases::settle` meets its contract, by the laws of `Exits`. Assumes nothing.
 use mathlib.Core.Path.{sym, ◌∙◌}
+use Rattle.lists.proofs.Cases.{some_of, none_of}
 use Rattle.reports.proofs.Then.{hands_stop}
-use Rattle.reports.proofs.Then.{some_of, none_of}
 use Rattle.phases.proofs.Exits.{settle_nothing, settle_no_row, settle_walked, settle_past, settle_told}
 use Rattle.phases.proofs.settle.Goals as goal
 

@@ -8,4 +8,4 @@ on_err (Ok x) p = tt
 on_err (Err e) p = p
 
 pub returns-in_err-insert_by_key-clause-keeps : goal.returns-in_err-insert_by_key-clause-keeps
-returns-in_err-insert_by_key-clause-keeps c = on_err _ (full_same _ _ _ _ _ _ c.in_err-insert_by_key.ensures)
+returns-in_err-insert_by_key-clause-keeps c = on_err _ (full_same _ _ _ _ c.in_err-insert_by_key.was c.insert_by_key.ensures)

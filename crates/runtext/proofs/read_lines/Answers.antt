@@ -10,7 +10,8 @@ use Rattle.std.proofs.lemmas.Grind.{common_steps}
 use Rattle.std.proofs.lemmas.Option.{MatchOption-at_none, MatchOption-at_some}
 use Rattle.std.proofs.lemmas.Result.{err_from_is_err_and}
 use Rattle.std.proofs.lemmas.Slice.Eq.{strip_suffix_is}
-use Rattle.runtext.proofs.ReadLaws.{whole, too_few, unended, no_line, is_taken, is_bad, line_taken, line_bad, too_long, not_long, piece_ended, piece_unended}
+use Rattle.lists.proofs.Cases.{none_of}
+use Rattle.runtext.proofs.ReadLaws.{whole, too_few, unended, is_taken, is_bad, line_taken, line_bad, too_long, not_long, piece_ended, piece_unended}
 use Rattle.runtext.proofs.read_lines.Goals as goal
 
 pub returns-then-text-gt-MOST_BYTES-clause-reads : goal.returns-then-text-gt-MOST_BYTES-clause-reads
@@ -22,7 +23,7 @@ returns-in_err-line-clause-reads c =
     let first = (s.1.2 (λ b. eqb b 10) (always_returns_same _ _ _ (λ a r f k. search rules))).1 in
     let none = MatchOption-at_none _ _ c.in_err-line.ensures.ok_part (strip_suffix_is Decides-eqb _ (10 ∷ []) _ c.strip_suffix.ensures.cases) in
     let p = err_from_is_err_and c.from_residual.result c.from_residual.ensures.1 in
-    rw (p.1, p.2, no_line _ _ _ c.in_err-line.ensures.value) (sym (not_long _ _ c.if-text-gt-MOST_BYTES.false ∙ c.loop-piece.invariant.same ∙ unended _ _ _ s.2 (piece_unended _ _ _ _ s.0 s.1.1 first none)))
+    rw (p.1, p.2, (none_of _ c.in_err-line.ensures.value).1) (sym (not_long _ _ c.if-text-gt-MOST_BYTES.false ∙ c.loop-piece.invariant.same ∙ unended _ _ _ s.2 (piece_unended _ _ _ _ s.0 s.1.1 first none)))
 
 pub returns-in_err-or-clause-reads : goal.returns-in_err-or-clause-reads
 returns-in_err-or-clause-reads c =

@@ -13,10 +13,10 @@ pub returns-in_err-push : goal.returns-in_err-push
 unfolding accept
 returns-in_err-push c at h =
     hands_on _ c.from_residual-in_err-push.ensures
-    (then_on _ _ _ (c.in_ok-report.ensures at h) (quiet_stop _ _ _ (booked_run _ _ (Err _) c.in_err-push.ensures)))
+    (then_on _ _ _ (c.in_ok-report.ensures at h) (quiet_stop _ _ _ (booked_run _ _ (Err _) c.in_err-push.was c.push.ensures)))
 
 pub returns : goal.returns
 unfolding accept
 returns c at h =
     then_on _ _ _ (c.in_ok-report.ensures at h)
-    (quiet_on _ _ _ (booked_run _ _ (Ok tt) c.in_ok-push.ensures) (quiet _ _ _ c.schedule_expiry.ensures))
+    (quiet_on _ _ _ (booked_run _ _ (Ok tt) c.in_ok-push.was c.push.ensures) (quiet _ _ _ c.schedule_expiry.ensures))

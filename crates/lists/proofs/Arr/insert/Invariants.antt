@@ -3,4 +3,4 @@ use Rattle.lists.proofs.Loops.{Inserting}
 use Rattle.lists.proofs.Arr.insert.Given as goal
 
 abbrev pub invariant-loop-i : goal.invariant-loop-i
-invariant-loop-i g l = Inserting g.T.Blank.blank l.at l.initial.carry l.count l.initial.self.slots l.i l.self.slots l.carry
+invariant-loop-i g l = Inserting g.T.Blank.blank l.at l.initial.carry l.count l.initial.self.slots l.i l.stores l.self.slots l.carry

@@ -9,7 +9,7 @@ returns-in_err-delayed c = hands_on _ c.from_residual.ensures (report_late _ _ _
 
 pub returns-in_err-push : goal.returns-in_err-push
 returns-in_err-push c =
-    hands_on _ c.from_residual-in_err-push.ensures (report_sent _ _ _ _ _ _ (Err _) c.in_ok-delayed.ensures c.max-at_ns.ensures c.emit.ensures c.in_err-push.ensures)
+    hands_on _ c.from_residual-in_err-push.ensures (report_sent _ _ _ _ _ _ (Err _) c.in_ok-delayed.ensures c.max-at_ns.ensures c.emit.ensures c.in_err-push.was c.push.ensures)
 
 pub returns : goal.returns
-returns c = report_sent _ _ _ _ _ _ (Ok tt) c.in_ok-delayed.ensures c.max-at_ns.ensures c.emit.ensures c.in_ok-push.ensures
+returns c = report_sent _ _ _ _ _ _ (Ok tt) c.in_ok-delayed.ensures c.max-at_ns.ensures c.emit.ensures c.in_ok-push.was c.push.ensures

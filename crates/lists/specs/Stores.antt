@@ -4,7 +4,7 @@ use Rattle.numbers.specs.Choice.{pick}
 use Rattle.lists.specs.declared.Arr.{Arr}
 use Rattle.lists.specs.Lists.{put_at, taken_at}
 
--- of the slots k no other became another in l than the m from place i on
+-- the slots l are the slots k but, at most, for the m from place i on
 pub record Window {A : Type 0} (i m : ℕ) (k l : List A) : Type 0 where
   pub before : take i l ≡ take i k
   pub behind : drop (i + m) l ≡ drop (i + m) k

@@ -1,14 +1,12 @@
 -- What a message does, one law for each way out. Assumes nothing.
 use Prim.Native.Nat.{ℕ, ◌+◌}
 use mathlib.Core.Bool.{true, false}
-use mathlib.Core.Path.{◌≡◌, refl, ap, ◌∙◌}
-use Rattle.std.specs.Prelude.{Option, Some, None, Result, Ok}
+use mathlib.Core.Path.{◌≡◌, refl, ◌∙◌}
+use Rattle.std.specs.Prelude.{Some, Result}
 use Rattle.numbers.specs.Choice.{on_some}
 use Rattle.numbers.specs.Words.{fitting}
-use Rattle.lists.specs.Lists.{put_of, pushed, put_before, taken_of, taken_at}
+use Rattle.lists.specs.Lists.{put_of, pushed, put_before}
 use Rattle.lists.proofs.Cases.{on_true, on_false}
-use Rattle.lists.proofs.Exits.{none_same}
-use Rattle.lists.specs.declared.Arr.{Arr}
 use Rattle.lists.specs.declared.Counted.{Counted}
 use Rattle.lists.specs.declared.Full.{Full}
 use Rattle.book.specs.Capacities.{orders_capacity, msgs_capacity}
@@ -20,10 +18,10 @@ use Rattle.msgs.specs.Rows.{Msgs}
 use Rattle.orders.specs.Rows.{Orders}
 use Rattle.state.specs.With.{with_seqs, with_orders, with_msgs, with_awaiting, seqs_next_msg_seq}
 use Rattle.state.specs.declared.KernelState.{KernelState}
-use Rattle.rules.specs.Run.{Run, ran_to, taking}
+use Rattle.rules.specs.Run.{Run, ran_to}
 use Rattle.rules.specs.Messages.{await, await_marked, book, schedule, on_activation}
-use Rattle.reports.specs.Log.{Logged, StepResult, expected, actual, run_of}
-use Rattle.reports.proofs.Then.{full_halts, put_run, ran_here, take_none}
+use Rattle.reports.specs.Log.{Logged, StepResult, expected, run_of}
+use Rattle.reports.proofs.Then.{full_halts, put_run}
 
 -- ---- an order with a cancel in flight, and one without
 module _ (o : VenueOrder) (s : KernelState) where
@@ -47,12 +45,6 @@ pub scheduled : (at : ℕ) (k : MsgKind) (s : KernelState) {n : ℕ} {l : Msgs} 
     → run_of (full_halts r) (with_msgs (with_seqs s (seqs_next_msg_seq s.seqs n)) l) ≡ schedule at k s
 unfolding schedule on_some
 scheduled at k s {n = n} r h q e = let t : KernelState = with_seqs s (seqs_next_msg_seq s.seqs n) in rw (← h) (put_run msgs_capacity _ _ s.msgs (with_msgs t) t r refl q e)
-
--- ---- no entry comes out of a list: k puts a list into the state s, whose list is r
-pub took_none : {A : Type 0} {n : ℕ} (m : Logged) (cap : ℕ) (d : A) (i : ℕ) (r : Arr A n) (k : Arr A n → KernelState) (s : KernelState) (f : A → Arr A n → Run) {a : Counted (Option A)} {l : Arr A n}
-    → k r ≡ s → a.answer ≡ None → taken_of a l ≡ taken_at cap d i r → actual (Ok tt) (k l) m ≡ expected m (taking (taken_at cap d i r) f (ran_to s))
-took_none m cap d i r k s f {l = l} e q h =
-    take_none m (taken_at cap d i r) f (ran_to s) q h (ran_here m (k l) ∙ ap (λ y. expected m (ran_to y)) (ap k (none_same cap r d i q h) ∙ e))
 
 -- ---- a message that is no activation
 pub not_activation : (l : Logged) (m : MsgKind) (k : VenueOrder → Run) (z : Run) → ((o : VenueOrder) (life : ℕ) → m ≡ Activate o life → ⊥) → {x : StepResult} → x ≡ expected l z → x ≡ expected l (on_activation m k z)

@@ -11,7 +11,6 @@ use Rattle.numbers.specs.Choice.{on_some}
 use Rattle.numbers.specs.Words.{fitting}
 use Rattle.lists.specs.Lists.{live, popped, taken_of, emptied}
 use Rattle.lists.proofs.Cases.{different}
-use Rattle.lists.proofs.Exits.{none_same}
 use Rattle.book.specs.Entries.{blank_msg, blank_delivery, blank_obs}
 use Rattle.book.specs.declared.Delivery.{Delivery}
 use Rattle.book.specs.declared.VenueMsg.{VenueMsg}
@@ -35,15 +34,9 @@ use Rattle.reports.specs.Log.{Logged, append_event, append_events, outcome_of, S
 use Rattle.reports.specs.declared.Stop.{Stop}
 use Rattle.reports.specs.declared.Stop.TheVariants as stop
 use Rattle.reports.proofs.Append.{appended_append}
-use Rattle.reports.proofs.Then.{ran_here, halted_here, then_on, then_stop, quiet_on, quiet_stop, raise_on, take_on, take_none}
+use Rattle.reports.proofs.Then.{ran_here, halted_here, then_on, then_stop, quiet_on, quiet_stop, raise_on, take_on}
 
 -- ---- the first delivery
-pub deliver_none : (l : Logged) (s : KernelState) (q : Deliveries) {a : Counted (Option Delivery)} → a.answer ≡ None → taken_of a q ≡ popped 24 blank_delivery s.deliveries → actual (Ok tt) (with_deliveries s q) l ≡ expected l (deliver_next s)
-unfolding deliver_next
-deliver_none l s q e h =
-    take_none l (popped 24 blank_delivery s.deliveries) _ _ e h
-    (ap (λ y. actual (Ok tt) (with_deliveries s y) l) (none_same 24 s.deliveries blank_delivery 0 e h) ∙ ran_here l s)
-
 -- d came out, q is the rest, and m the log with its event
 module _ (l m : Logged) (s : KernelState) (d : Delivery) (q : Deliveries) {a : Counted (Option Delivery)} (g : a.answer ≡ Some d) (h : taken_of a q ≡ popped 24 blank_delivery s.deliveries) (em : m ≡ append_event l (Delivered d.report)) where
   came_out : {x : StepResult}

@@ -13,7 +13,7 @@ use Rattle.lists.specs.Lists.{insert_at, remove_at, below, placed, without}
 use Rattle.lists.specs.Stores.{Window, Stores}
 use Rattle.lists.proofs.Exits.{put_ways, take_ways}
 use Rattle.lists.proofs.Loops.{insert_at-length, remove_at-length}
-use Rattle.lists.proofs.Sums.{remove_front}
+use Rattle.lists.proofs.Sums.{without_front}
 use Rattle.lists.specs.declared.Arr.{Arr}
 
 module _ {A : Type 0} where
@@ -46,7 +46,7 @@ module _ {A : Type 0} where
         let e : i + (r.count - i) ≡ r.count = omega arith in
         let w : length (remove_at i (below r)) + 1 ≡ r.count = omega (arith, remove_at-length i (below r) (omega (arith, live_long)), live_long) in
         record {
-          before = remove_front i (below r) _ (omega (arith, live_long)) ∙ take-take i r.count r.slots (omega arith);
+          before = without_front d i r k (omega arith);
           behind = rw (e, ← append_assoc (remove_at i (below r)) (d ∷ []) (drop r.count r.slots)) (drop_at (remove_at i (below r) ++ d ∷ []) (drop r.count r.slots) r.count (length-append (remove_at i (below r)) (d ∷ []) ∙ w));
         }
 

@@ -27,11 +27,16 @@ module _ {A : Type 0} where
   remove_most zero (x ∷ l) = omega arith
   remove_most (suc i) (x ∷ l) = let e = remove_most i l in omega arith
 
-  pub remove_front : (i : ℕ) (l m : List A) → i < length l → take i (remove_at i l ++ m) ≡ take i l
+  remove_front : (i : ℕ) (l m : List A) → i < length l → take i (remove_at i l ++ m) ≡ take i l
   unfolding remove_at
   remove_front i [] m h = absurd (not-suc-le-zero h)
   remove_front zero (x ∷ l) m h = refl
   remove_front (suc i) (x ∷ l) m h = ap (λ t. x ∷ t) (remove_front i l m (le_of_suc-le-suc h))
+
+  -- an entry that comes out leaves the slots before its place
+  pub without_front : {n : ℕ} (d : A) (i : ℕ) (r : Arr A n) → i < r.count → i < length r.slots → take i (without d i r).slots ≡ take i r.slots
+  unfolding without
+  without_front d i r h k = let w : i < length (below r) = rw length-take (omega arith) in remove_front i (below r) _ w ∙ take-take i r.count r.slots (omega arith)
 
 module _ {A : Type 0} (f : A → ℕ) where
   pub total-append : (a b : List A) → total f (a ++ b) ≡ total f a + total f b
@@ -164,7 +169,7 @@ module _ {A : Type 0} {n : ℕ} (cap : ℕ) where
         is = refl;
         one_less = omega arith;
         sums = λ f z. without-total f d i r z h;
-        front = λ k. let w : i < length (below r) = rw length-take (omega arith) in remove_front i (below r) _ w ∙ take-take i r.count r.slots (omega arith);
+        front = without_front d i r h;
       }
 
   pub take_case : (P : Taken A n → Type 0) (d : A) (i : ℕ) (r : Arr A n)

@@ -5,8 +5,8 @@ use mathlib.Core.List.{List, ◌++◌, append_assoc}
 use Rattle.std.specs.Prelude.{Option, Some, None, Result, Ok, Err, IsErr, IsErrAnd}
 use Rattle.numbers.specs.Choice.{pick, on_some}
 use Rattle.lists.proofs.Cases.{different}
-use Rattle.lists.specs.Lists.{Put, Taken, put_of, taken_of, put_at}
-use Rattle.lists.proofs.Exits.{full_same}
+use Rattle.lists.specs.Lists.{Put, Taken, put_of, taken_of, put_at, taken_at}
+use Rattle.lists.proofs.Exits.{full_same, none_same}
 use Rattle.lists.specs.declared.Arr.{Arr}
 use Rattle.lists.specs.declared.Counted.{Counted}
 use Rattle.lists.specs.declared.Full.{Full}
@@ -133,6 +133,12 @@ module _ {A : Type 0} {n : ℕ} (l : Logged) (p : Taken A n) (k : A → Arr A n 
   pub take_none : a.answer ≡ None → taken_of a l₁ ≡ p → {x : StepResult} → x ≡ expected l z → x ≡ expected l (rules.taking p k z)
   unfolding on_some rules.taking
   take_none e h c = rw (← h, e) c
+
+-- no entry: k puts a list into the state s, whose list is r
+pub took_none : {A : Type 0} {n : ℕ} (m : Logged) (cap : ℕ) (d : A) (i : ℕ) (r : Arr A n) (k : Arr A n → KernelState) (s : KernelState) (f : A → Arr A n → rules.Run) {a : Counted (Option A)} {l : Arr A n}
+    → k r ≡ s → a.answer ≡ None → taken_of a l ≡ taken_at cap d i r → actual (Ok tt) (k l) m ≡ expected m (rules.taking (taken_at cap d i r) f (rules.ran_to s))
+took_none m cap d i r k s f {l = l} e q h =
+    take_none m (taken_at cap d i r) f (rules.ran_to s) q h (ran_here m (k l) ∙ ap (λ y. expected m (rules.ran_to y)) (ap k (none_same cap r d i q h) ∙ e))
 
 -- ---- an entry that goes into a list: a full list halts
 module _ {A : Type 0} {n : ℕ} (p : Put A n) (k : Arr A n → KernelState) (s : KernelState) {a : Counted (Result (Unit {0}) Full)} {l₁ : Arr A n} where

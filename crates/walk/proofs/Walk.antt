@@ -2,10 +2,9 @@
 use Prim.Native.Nat.{ℕ, ◌<◌, ◌≤◌, max}
 use mathlib.Core.Path.{◌≡◌, refl, sym, ap, ◌∙◌}
 use borrow.Author.Tests.{lt-leb, le-leb}
-use Rattle.std.specs.Prelude.{Option, Some, None, Ok, Err}
+use Rattle.std.specs.Prelude.{Option, Some, Ok, Err}
 use Rattle.numbers.specs.Choice.{pick}
 use Rattle.lists.specs.Lists.{popped, taken_of}
-use Rattle.lists.proofs.Exits.{none_same}
 use Rattle.lists.specs.declared.Counted.{Counted}
 use Rattle.book.specs.Entries.{blank_obs}
 use Rattle.book.specs.declared.ObsEntry.{ObsEntry}
@@ -21,15 +20,9 @@ use Rattle.rules.proofs.Falls.{event_falls, walk_again, walk_last}
 use Rattle.reports.specs.Log.{Logged, append_event, append_events, StepResult, expected, actual}
 use Rattle.reports.specs.declared.Stop.{Stop}
 use Rattle.reports.specs.declared.Stop.TheVariants as stop
-use Rattle.reports.proofs.Then.{ran_here, ran_there, then_on, then_stop, take_on, take_none}
+use Rattle.reports.proofs.Then.{ran_here, ran_there, then_on, then_stop, take_on}
 
 -- ---- an observation
-pub pop_none : (c : Config) (l : Logged) (s : KernelState) (q : Observed) {a : Counted (Option ObsEntry)} → a.answer ≡ None → taken_of a q ≡ popped 16 blank_obs s.observed → actual (Ok tt) (with_observed s q) l ≡ expected l (pop_observation c s)
-unfolding pop_observation
-pop_none c l s q e h =
-    take_none l (popped 16 blank_obs s.observed) _ _ e h
-    (ap (λ y. actual (Ok tt) (with_observed s y) l) (none_same 16 s.observed blank_obs 0 e h) ∙ ran_here l s)
-
 -- e came out, and q is the rest
 module _ (c : Config) (l : Logged) (s : KernelState) (e : ObsEntry) (q : Observed) {a : Counted (Option ObsEntry)} (p : a.answer ≡ Some e) (h : taken_of a q ≡ popped 16 blank_obs s.observed) where
   pub pop_over : {k : Control} → c.s_max ≤ s.control.step → k ≡ truncated s.control → actual (Err stop.Left) (with_control (with_observed s q) k) l ≡ expected l (pop_observation c s)

@@ -2,8 +2,8 @@
 use mathlib.Core.Path.{refl}
 use Rattle.state.specs.With.{with_msgs}
 use Rattle.rules.specs.Messages.{cancel_activation}
-use Rattle.reports.proofs.Then.{hands_on, ran_here, quiet_on, quiet_stop, take_on}
-use Rattle.deeds.proofs.Deeds.{took_none, not_activation}
+use Rattle.reports.proofs.Then.{hands_on, ran_here, quiet_on, quiet_stop, take_on, took_none}
+use Rattle.deeds.proofs.Deeds.{not_activation}
 use Rattle.deeds.proofs.cancel.cancel_activation.Goals as goal
 
 pub returns-in_default : goal.returns-in_default

@@ -2,8 +2,7 @@
 use mathlib.Core.Path.{refl}
 use Rattle.state.specs.With.{with_awaiting}
 use Rattle.rules.specs.Messages.{cancel_awaiting}
-use Rattle.reports.proofs.Then.{take_on}
-use Rattle.deeds.proofs.Deeds.{took_none}
+use Rattle.reports.proofs.Then.{take_on, took_none}
 use Rattle.deeds.proofs.cancel.cancel_awaiting.Goals as goal
 
 pub returns-in_default : goal.returns-in_default

@@ -2,8 +2,7 @@
 use mathlib.Core.Path.{refl}
 use Rattle.rules.specs.Messages.{cancel_booked}
 use Rattle.state.specs.With.{with_orders}
-use Rattle.reports.proofs.Then.{hands_on, quiet_on, quiet_stop, take_on}
-use Rattle.deeds.proofs.Deeds.{took_none}
+use Rattle.reports.proofs.Then.{hands_on, quiet_on, quiet_stop, take_on, took_none}
 use Rattle.deeds.proofs.cancel.cancel_booked.Goals as goal
 
 pub returns-in_default : goal.returns-in_default

@@ -2,8 +2,7 @@
 use mathlib.Core.Path.{refl}
 use Rattle.state.specs.With.{with_orders}
 use Rattle.rules.specs.Messages.{expire_booked}
-use Rattle.reports.proofs.Then.{hands_on, quiet, quiet_on, quiet_stop, raise_on, then_on, then_stop, take_on}
-use Rattle.deeds.proofs.Deeds.{took_none}
+use Rattle.reports.proofs.Then.{hands_on, quiet, quiet_on, quiet_stop, raise_on, then_on, then_stop, take_on, took_none}
 use Rattle.deeds.proofs.expiry.expire_booked.Goals as goal
 
 pub returns-in_default : goal.returns-in_default

@@ -8,15 +8,15 @@ pub returns-in_default : goal.returns-in_default
 returns-in_default g c = take_none _ _ _ _ c.in_default.ensures
 
 pub overflow_sub-last : goal.overflow_sub-last
-overflow_sub-last g c = let w = entry_tells _ _ _ _ _ (c.in-Some.ensures) in omega arith
+overflow_sub-last g c = let w = entry_tells _ _ _ _ _ c.in-Some.ensures in omega arith
 
 pub loop-i-init : goal.loop-i-init
-loop-i-init g c = let w = entry_tells _ _ _ _ _ (c.in-Some.ensures) in remove_begin w.1 (omega arith)
+loop-i-init g c = let w = entry_tells _ _ _ _ _ c.in-Some.ensures in remove_begin w.1 (omega arith)
 
 pub loop-i-preserved : goal.loop-i-preserved
 loop-i-preserved g c = remove_turn _ (omega arith) c.loop-i.invariant
 
 pub returns : goal.returns
 returns g c =
-    let w = entry_tells _ _ _ _ _ (c.in-Some.ensures) in
+    let w = entry_tells _ _ _ _ _ c.in-Some.ensures in
     rw w.2 (take_in _ _ w.0 c.blank.ensures (omega arith) c.loop-i.invariant)

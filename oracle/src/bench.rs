@@ -1,8 +1,9 @@
 //! The days of the program `bench`, through the published kernel: what both
 //! print is equal, so that their times are times of the same work.
 
-use crate::backtest::kernel::glue::{self, Kept, Log, Prepared};
+use crate::backtest::kernel::glue::{self, Kept, Prepared};
 use crate::case::{Config, EVENT, Fill, Msg, Open, Order, State};
+use crate::run::Log;
 
 const START: u64 = 1_000_000_000;
 const ROW_NS: u64 = 1_000_000;
@@ -39,6 +40,7 @@ impl Day {
             observation: 0,
             ack: delay,
             jitter: delay,
+            ceiling: 0,
             s_max: u64::MAX,
             fill: Fill::Queue {
                 rate: 3,

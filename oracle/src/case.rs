@@ -166,6 +166,7 @@ pub struct Config {
     pub observation: u64,
     pub ack: u64,
     pub jitter: u64,
+    pub ceiling: u64,
     pub s_max: u64,
     pub fill: Fill,
 }
@@ -363,6 +364,7 @@ pub fn put_case(out: &mut Vec<u8>, case: &Case) {
     put_line(out, "observation", &[c.observation]);
     put_line(out, "ack", &[c.ack]);
     put_line(out, "jitter", &[c.jitter]);
+    put_line(out, "ceiling", &[c.ceiling]);
     put_line(out, "smax", &[c.s_max]);
     match c.fill {
         Fill::Immediate => put_line(out, "fill", &[0, 0, 0, 0]),
@@ -530,6 +532,7 @@ impl<R: BufRead> Reader<R> {
             observation: self.number("observation")?,
             ack: self.number("ack")?,
             jitter: self.number("jitter")?,
+            ceiling: self.number("ceiling")?,
             s_max: self.number("smax")?,
             fill: Fill::Immediate,
         };

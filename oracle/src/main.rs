@@ -14,6 +14,7 @@ mod run;
 mod stand_ins;
 mod stats;
 
+use run::Which;
 pub use stand_ins::{Decimal, execution, position, risk, types};
 
 /// The published files, with stand-ins for their absent neighbours.
@@ -22,8 +23,14 @@ mod backtest {
     include!(concat!(env!("OUT_DIR"), "/backtest.rs"));
 }
 
+/// The same with what document 02 asks for (`changes.rs`).
+#[allow(dead_code, unused, clippy::all)]
+mod requests {
+    include!(concat!(env!("OUT_DIR"), "/requests.rs"));
+}
+
 const USAGE: &str = "\
-oracle run < CASES > OUTCOMES
+oracle run [requests] < CASES > OUTCOMES
 oracle gen KIND SEED COUNT [FIRST] > CASES     KIND: replay, wild or edge
 oracle stats [families] < OUTCOMES
 oracle diff A B
@@ -36,7 +43,8 @@ fn command(args: &[&str]) -> io::Result<Option<bool>> {
     let from = || BufReader::with_capacity(BUFFER, io::stdin().lock());
     let to = || BufWriter::with_capacity(BUFFER, io::stdout().lock());
     let good = match args {
-        ["run"] => run::all(from(), to())?,
+        ["run"] => run::all(from(), to(), Which::Asked)?,
+        ["run", "requests"] => run::all(from(), to(), Which::Requests)?,
         ["gen", kind, seed, count, first @ ..] if first.len() <= 1 => {
             let first = first.first().map_or(Ok(0), |n| n.parse());
             match (seed.parse(), count.parse(), first) {

@@ -1,5 +1,5 @@
-//! Copies of the published files with one place changed in each, to see that
-//! the cases tell them apart from the original.
+//! Copies of the published files, and of ours that says N5's ceiling, with one
+//! place changed in each, to see that the cases tell them apart from the original.
 
 use std::fs;
 use std::io;
@@ -8,6 +8,9 @@ use std::path::Path;
 /// The folder this program was compiled from, and its files there.
 const FROM: &str = env!("KERNEL_FROM");
 const FILES: &str = env!("KERNEL_FILES");
+
+/// Ours; `build.rs` takes it from beside the published files where it stands there.
+const CEILING: (&str, &str) = ("ceiling.rs", include_str!("inside/ceiling.rs"));
 
 struct Mutant {
     name: &'static str,
@@ -500,6 +503,43 @@ const MUTANTS: &[Mutant] = &[
         "account.position(|o| o.order_id == report.order_id)",
         "account.as_slice().iter().rposition(|o| o.order_id == report.order_id)",
     ),
+    // The second writing of N5's ceiling.
+    mutant(
+        "ceiling-one-below",
+        "ceiling",
+        "_ if ceiling > 0 => ceiling,",
+        "_ if ceiling > 0 => ceiling - 1,",
+    ),
+    mutant(
+        "ceiling-halts-past-64-bits",
+        "ceiling",
+        "_ if ceiling > 0 => ceiling,",
+        "Some(_) if ceiling > 0 => ceiling,",
+    ),
+    mutant(
+        "ceiling-sum-saturates",
+        "ceiling",
+        "u64::try_from(u128::from(base_q) + u128::from(jitter)).ok()",
+        "Some(base_q.saturating_add(jitter))",
+    ),
+    mutant(
+        "ceiling-after-the-time",
+        "ceiling",
+        "    let ns = match ns {\n",
+        "    ns.map_or(Some(0), |ns| at.checked_add(ns)).ok_or(HaltReason::TimeOverflow)?;\n    let ns = match ns {\n",
+    ),
+    mutant(
+        "ceiling-leaves-the-generator",
+        "ceiling",
+        "    let jitter = s.rng_latency.draw(latency.jitter_q);\n",
+        "    let mut rng = s.rng_latency;\n    let jitter = rng.draw(latency.jitter_q);\n    if base_q.checked_add(jitter).is_some() {\n        s.rng_latency = rng;\n    }\n",
+    ),
+    mutant(
+        "ceiling-is-no-delay-past-64-bits",
+        "ceiling",
+        "    let ns = match ns {\n",
+        "    let ns = match ns.or(Some(0)) {\n",
+    ),
 ];
 
 /// Writes each mutant's files to a folder of its name in `to`, and a list of
@@ -509,8 +549,11 @@ pub fn all(to: &Path) -> io::Result<bool> {
     let mut list = String::new();
     for m in MUTANTS {
         let mut found = false;
-        for file in FILES.split(' ') {
-            let mut text = fs::read_to_string(from.join(file))?;
+        for file in FILES.split(' ').chain([CEILING.0]) {
+            let mut text = match file == CEILING.0 {
+                true => CEILING.1.to_string(),
+                false => fs::read_to_string(from.join(file))?,
+            };
             if Path::new(file)
                 .file_stem()
                 .is_some_and(|stem| stem == m.file)

@@ -1,12 +1,51 @@
-//! Runs cases: document 01's refusals and `pass` around the kernel's `advance`.
+//! Runs cases: document 01's refusals and `pass` around the kernel's `advance`,
+//! which is the published one, or the one with document 02's requests where a
+//! case has what only that knows.
 
 use std::io::{self, BufRead, Write};
 
-use crate::backtest::kernel::glue::{self, Log, Prepared};
+use crate::backtest::kernel::glue as published;
 use crate::case::{
-    AWAIT_DECISION, BEFORE_MATCH, Case, EVENT, LONG, OBS_QUEUED, Reader, State, Stop, TERMINAL,
-    put_line, put_state,
+    AWAIT_DECISION, BEFORE_MATCH, Case, Config, EVENT, LONG, OBS_QUEUED, Reader, State, Stop,
+    TERMINAL, put_line, put_state,
 };
+use crate::requests::kernel::glue as requests;
+
+/// The log: it holds the first `room` events and counts all.
+pub struct Log {
+    pub room: u64,
+    pub events: Vec<[u64; EVENT]>,
+    pub count: u64,
+}
+
+/// Which kernel runs: the one that the case asks for, or always the one with the
+/// requests.
+#[derive(Clone, Copy, PartialEq)]
+pub enum Which {
+    Asked,
+    Requests,
+}
+
+enum Prepared {
+    Published(published::Prepared),
+    Requests(requests::Prepared),
+}
+
+impl Prepared {
+    fn new(config: &Config, rows: &[u64], which: Which) -> Self {
+        if which == Which::Requests || config.ceiling > 0 {
+            return Self::Requests(requests::prepare(config, rows));
+        }
+        Self::Published(published::prepare(config, rows))
+    }
+
+    fn advance(&self, s: &mut State, log: &mut Log) {
+        match self {
+            Self::Published(with) => published::advance(with, s, log),
+            Self::Requests(with) => requests::advance(with, s, log),
+        }
+    }
+}
 
 /// A call's answer: 0, or the refusal.
 fn advance(case: &Case, with: &Prepared, s: &mut State, log: &mut Log) -> u64 {
@@ -16,7 +55,7 @@ fn advance(case: &Case, with: &Prepared, s: &mut State, log: &mut Log) -> u64 {
     if s.overfull() {
         return 102;
     }
-    glue::advance(with, s, log);
+    with.advance(s, log);
     0
 }
 
@@ -76,11 +115,11 @@ fn turns(case: &Case, with: &Prepared, s: &mut State, log: &mut Log) -> (u64, u6
 }
 
 /// Runs the calls of one case and writes their outcome.
-pub fn case(out: &mut Vec<u8>, case: &Case, log: &mut Log) {
+pub fn case(out: &mut Vec<u8>, case: &Case, log: &mut Log, which: Which) {
     out.extend_from_slice(b"case ");
     out.extend_from_slice(case.name.as_bytes());
     out.push(b'\n');
-    let with = glue::prepare(&case.config, &case.rows);
+    let with = Prepared::new(&case.config, &case.rows, which);
     let mut s = case.state.clone();
     log.room = case.log.map_or(LONG, |words| words / EVENT as u64);
     for call in &case.calls {
@@ -110,7 +149,7 @@ pub fn case(out: &mut Vec<u8>, case: &Case, log: &mut Log) {
 }
 
 /// Reads cases and writes outcomes; false after a bad line.
-pub fn all(from: impl BufRead, mut to: impl Write) -> io::Result<bool> {
+pub fn all(from: impl BufRead, mut to: impl Write, which: Which) -> io::Result<bool> {
     let mut reader = Reader::new(from);
     let mut out = Vec::new();
     let mut log = Log {
@@ -121,7 +160,7 @@ pub fn all(from: impl BufRead, mut to: impl Write) -> io::Result<bool> {
     loop {
         out.clear();
         match reader.case() {
-            Ok(read) => case(&mut out, &read, &mut log),
+            Ok(read) => case(&mut out, &read, &mut log, which),
             Err(Stop::End) => {
                 to.flush()?;
                 return Ok(true);

@@ -62,7 +62,7 @@ const ROWS: [(&str, &[&str]); 18] = [
         "7 release, gate",
         &["release-", "gate-", "order-gate-price"],
     ),
-    ("6 delay", &["delay-", "fill-keeps-booked"]),
+    ("6 delay", &["delay-", "ceiling-", "fill-keeps-booked"]),
     ("7 list full", &["full-"]),
     ("5 bid + ask", &["mid-"]),
     ("7 per_ms 0", &["queue-per-"]),

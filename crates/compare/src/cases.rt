@@ -83,6 +83,7 @@ fn read_config<R: BufRead>(lines: &mut Lines<R>) -> Result<Config, ReadError> {
         observation_q: lines.entry("observation")?,
         ack_q: lines.entry("ack")?,
         jitter_q: lines.entry("jitter")?,
+        ceiling_ns: lines.entry("ceiling")?,
         s_max: lines.entry("smax")?,
         fill: read_fill(lines)?,
     })

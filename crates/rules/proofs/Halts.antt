@@ -1,5 +1,5 @@
 -- Rows of 'Refused or halted' whose order of effects no other theorem sees. Assumes nothing.
-use Rattle.std.specs.Prelude.{None}
+use Rattle.std.specs.Prelude.{Some, None, eqb}
 use Prim.Native.Nat.{ℕ, ◌+◌, ◌*◌}
 use mathlib.Core.Bool.{false, true≢false}
 use mathlib.Core.Path.{◌≡◌, refl, sym, ◌∙◌}
@@ -13,13 +13,13 @@ use Rattle.state.specs.declared.HaltReason.{HaltReason}
 use Rattle.state.specs.declared.HaltReason.TheVariants.{LedgerOverflow, CounterOverflow}
 use Rattle.state.specs.declared.KernelState.{KernelState}
 use Rattle.rules.specs.Run.{Run, halt, and_then}
-use Rattle.rules.specs.Report.{stamp, delayed_time}
+use Rattle.rules.specs.Report.{stamp, delay_ns, under_ceiling}
 use Rattle.rules.specs.Matching.{gate_filled, fill_event, fill_at}
 
--- "delay: sum .. past 64 bits": also where the quantum is 0 and the product would fit
-pub sum_past : (from base jitter quantum : ℕ) → fits (base + jitter) ≡ false → delayed_time from base jitter quantum ≡ None
-unfolding delayed_time fitting pick on_some
-sum_past from base jitter quantum h = rw h
+-- "delay: sum .. past 64 bits": also where the quantum is 0 and the product would fit; and with a ceiling the delay is the ceiling, not 0
+pub sum_past : (ceiling base jitter quantum : ℕ) → fits (base + jitter) ≡ false → under_ceiling ceiling (delay_ns base jitter quantum) ≡ pick (eqb ceiling 0) None (Some ceiling)
+unfolding under_ceiling delay_ns fitting pick on_some
+sum_past ceiling base jitter quantum h = rw h refl
 
 -- it halts, in a state of which P is so
 abbrev Halts : (KernelState → Type 0) → Run → Type 0

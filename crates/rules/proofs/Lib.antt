@@ -21,5 +21,6 @@ pub mod HeldPhases
 pub mod Conservation
 pub mod LastEvent
 pub mod Halts
+pub mod Ceiling
 pub mod Sample
 pub mod Batch

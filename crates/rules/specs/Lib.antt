@@ -11,6 +11,7 @@ pub mod Calls
 pub mod Examples
 pub mod Conservation
 pub mod Batch
+pub mod Ceiling
 pub mod HowFar
 pub mod RowsRead
 pub mod FewEvents

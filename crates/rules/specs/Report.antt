@@ -1,6 +1,6 @@
 -- 'Report': stamps, delays, and a report with its delivery.
-use Rattle.numbers.specs.Choice.{on_some}
-use Rattle.std.specs.Prelude.{ℕ, ◌+◌, ◌*◌, max, Bool, Option, None}
+use Rattle.numbers.specs.Choice.{pick, on_some}
+use Rattle.std.specs.Prelude.{ℕ, ◌+◌, ◌*◌, min, max, Bool, eqb, Option, Some, None}
 use Rattle.numbers.specs.Words.{fitting}
 use Rattle.lists.specs.Lists.{pushed}
 use Rattle.book.specs.Capacities.{deliveries_capacity}
@@ -25,23 +25,29 @@ stamp s =
     (λ n. ran_to (with_seqs s (seqs_stamp_seq s.seqs n)))
     (halt_at CounterOverflow s)
 
--- "Delay is (base + jitter) times `quantum_ns`", after a time: none where "sum, product or time past 64 bits"
-unfoldable pub delayed_time : ℕ → ℕ → ℕ → ℕ → Option ℕ
-delayed_time from base jitter quantum =
-    on_some (fitting (base + jitter))
-    (λ quanta. on_some (fitting (quanta * quantum)) (λ ns. fitting (from + ns)) None)
-    None
+-- "Delay is (base + jitter) times `quantum_ns`": none where "sum, product .. past 64 bits", the sum also where the quantum is 0
+unfoldable pub delay_ns : ℕ → ℕ → ℕ → Option ℕ
+delay_ns base jitter quantum = on_some (fitting (base + jitter)) (λ quanta. fitting (quanta * quantum)) None
+
+-- N5: "A configured ceiling in ns bounds every delay: a longer one becomes the ceiling, and 0 .. means none. Where sum or product passes 64 bits the delay is the ceiling, if there is one"
+unfoldable pub under_ceiling : ℕ → Option ℕ → Option ℕ
+under_ceiling ceiling delay = pick (eqb ceiling 0) delay (Some (on_some delay (λ ns. min ns ceiling) ceiling))
+
+-- a delay after a time: none where there is no delay, or "time past 64 bits"
+unfoldable pub delayed_time : Config → ℕ → ℕ → ℕ → Option ℕ
+delayed_time c from base jitter =
+    on_some (under_ceiling c.ceiling_ns (delay_ns base jitter c.quantum_ns)) (λ ns. fitting (from + ns)) None
 
 -- a delay's jitter is drawn first: the generator with the time
 pub record Delay : Type 0 where
   pub rng : ℕ
   pub time : Option ℕ
 
--- by the configuration's jitter and quantum
+-- by the configuration's jitter, quantum and ceiling
 unfoldable pub delay : Config → ℕ → ℕ → ℕ → Delay
 delay c rng from base =
     let d : Draw = draw rng c.jitter_q in
-    record { rng = d.rng; time = delayed_time from base d.value c.quantum_ns }
+    record { rng = d.rng; time = delayed_time c from base d.value }
 
 -- k at the time that is the delay after `from`; "delay, generator already moved: 6"
 unfoldable pub delayed : Config → ℕ → ℕ → KernelState → (ℕ → KernelState → Run) → Run

@@ -71,7 +71,7 @@ module _ (fs : List (List ℕ)) where
   all_of n k = rw reads_are (around (eqb (length fs) n) (numbers n fs) k)
 
   pub config_is : config_line fs
-      ≡ on_some (only_numbers 6 fs) (λ w. Some (Config (record { quantum_ns = get_or w 0 0; observation_q = get_or w 1 0; ack_q = get_or w 2 0; jitter_q = get_or w 3 0; s_max = get_or w 5 0; fill = Immediate }) (get_or w 4 0))) None
+      ≡ on_some (only_numbers 6 fs) (λ w. Some (Config (record { quantum_ns = get_or w 0 0; observation_q = get_or w 1 0; ack_q = get_or w 2 0; jitter_q = get_or w 3 0; ceiling_ns = 0; s_max = get_or w 5 0; fill = Immediate }) (get_or w 4 0))) None
   unfolding config_line
   config_is = all_of 6 _
 

@@ -28,7 +28,7 @@ long fs n l = pick (eqb (length fs) n) l None
 unfoldable pub side_of : List ℕ → Option Side
 side_of f = pick (bytes_eq f (bytes "B")) (Some Buy) (pick (bytes_eq f (bytes "S")) (Some Sell) None)
 
--- "`c` quantum observation ack jitter seed s_max". Its fill mode stands in the next line
+-- "`c` quantum observation ack jitter seed s_max". Its fill mode stands in the next line, and N5's ceiling is "0, as in replay"
 unfoldable pub config_line : List (List ℕ) → Option Line
 config_line fs =
     long fs 6
@@ -38,7 +38,7 @@ config_line fs =
     number_at fs 3 λ jitter.
     number_at fs 4 λ seed.
     number_at fs 5 λ most.
-    Some (Config (record { quantum_ns = quantum; observation_q = observation; ack_q = ack; jitter_q = jitter; s_max = most; fill = Immediate }) seed))
+    Some (Config (record { quantum_ns = quantum; observation_q = observation; ack_q = ack; jitter_q = jitter; ceiling_ns = 0; s_max = most; fill = Immediate }) seed))
 
 -- "`f queue` rate per min", from the field behind that word
 unfoldable pub queue_line : List (List ℕ) → Option Line

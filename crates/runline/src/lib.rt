@@ -68,6 +68,7 @@ fn config_line(fields: &mut Fields) -> Option<Line>
         observation_q,
         ack_q,
         jitter_q,
+        ceiling_ns: 0,
         s_max,
         fill: FillMode::Immediate,
     };

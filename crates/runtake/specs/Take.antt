@@ -42,7 +42,7 @@ reading_of r = record { cfg = r.cfg; seed = r.seed; lots = r.lots; msgs = r.msgs
 -- before the first line
 abbrev pub blank_reading : List ℕ → Reading
 blank_reading w = record {
-  cfg = record { quantum_ns = 0; observation_q = 0; ack_q = 0; jitter_q = 0; s_max = 0; fill = Immediate };
+  cfg = record { quantum_ns = 0; observation_q = 0; ack_q = 0; jitter_q = 0; ceiling_ns = 0; s_max = 0; fill = Immediate };
   seed = 0;
   lots = record { buy = 0; sell = 0 };
   msgs = empty_msgs;

@@ -6,6 +6,7 @@ use core::num::NonZeroU64;
 
 use crate::Decimal;
 use crate::case::{self, DLV, EVENT, Entry, Fill, List, MSG, OBS, ORD};
+use crate::run::Log;
 use crate::types::action::{Action, Dir};
 
 use super::account::OpenOrder;
@@ -103,13 +104,6 @@ const NO_DATA: DatasetId = DatasetId {
     digest: 0,
     external: [0; 32],
 };
-
-/// The log: it holds the first `room` events and counts all.
-pub struct Log {
-    pub room: u64,
-    pub events: Vec<[u64; EVENT]>,
-    pub count: u64,
-}
 
 impl EventSink for Log {
     fn event(&mut self, event: KernelEvent) {

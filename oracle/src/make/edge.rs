@@ -101,6 +101,7 @@ impl<'a> Edge<'a> {
             observation: r.below(3),
             ack: r.below(3),
             jitter: r.pick(&[0, 0, 1, 3]),
+            ceiling: 0,
             s_max: 1000,
             fill: Fill::Immediate,
         };
@@ -508,6 +509,7 @@ impl Edges {
         edges.refusals();
         edges.rows_and_messages();
         edges.gate_and_delay();
+        edges.ceilings();
         edges.full_lists();
         edges.fills();
         edges.deliveries_and_end();
@@ -798,6 +800,118 @@ impl Edges {
             e.config.ack = e.time_limit(now);
             e.config.observation = 0;
         });
+    }
+
+    /// N5's ceiling on a delay, which counts from the time that its first step
+    /// gives and whose base its second sets. The generator moves in each.
+    fn ceilings(&mut self) {
+        fn report(e: &mut Edge) -> u64 {
+            e.alone();
+            e.config.observation = 0;
+            let place = e.r.pick(&REPORTS);
+            e.place(place).at
+        }
+        fn observation(e: &mut Edge) -> u64 {
+            e.s.observed.truncate(0);
+            e.s.last_observed = 0;
+            e.config.ack = 0;
+            e.t
+        }
+        /// The longest draw is above 0, and a quantum is 1 ns.
+        fn short(e: &mut Edge) {
+            e.config.quantum = 1;
+            e.config.jitter = e.r.pick(&[1, 3, 9]);
+        }
+        /// A base of some ns, and its delay.
+        fn some(e: &mut Edge) -> (u64, u64) {
+            short(e);
+            let base = e.r.range(2, 2 * e.dt);
+            (base, base + e.draw())
+        }
+        /// A ceiling of some ns.
+        fn low(e: &mut Edge) -> u64 {
+            e.r.range(1, 3 * e.dt)
+        }
+        let delays: [(&str, fn(&mut Edge) -> u64, fn(&mut Config, u64)); 2] = [
+            ("report", report, |c, base| c.ack = base),
+            ("observation", observation, |c, base| c.observation = base),
+        ];
+        for (what, from, set) in delays {
+            let mut add = |name: &str, gives: u64, make: fn(&mut Edge, u64) -> u64| {
+                self.add(format!("ceiling-{name}-{what}"), gives, move |e| {
+                    let at = from(e);
+                    let base = make(e, at);
+                    set(&mut e.config, base);
+                });
+            };
+            // One below, and at it.
+            add("at", 0, |e, _| {
+                let (base, ns) = some(e);
+                e.config.ceiling = ns + 1 - e.more();
+                base
+            });
+            // At it, and one above.
+            add("above", 0, |e, _| {
+                let (base, ns) = some(e);
+                e.config.ceiling = ns - e.more();
+                base
+            });
+            // 0 is none.
+            add("none", 0, |e, _| {
+                e.config.ceiling = 1 - e.more();
+                some(e).0
+            });
+            // A sum past 64 bits, with a ceiling and without, whatever the quantum.
+            add("sum", 6, |e, _| {
+                let base = e.sum_limit() + 1 - e.more();
+                e.config.quantum = e.r.pick(&[0, 1, e.dt]);
+                let ceiling = low(e);
+                e.config.ceiling = e.choose(0, ceiling);
+                base
+            });
+            // With quantum 0 the delay is 0, or the ceiling.
+            add("sum-fits", 0, |e, _| {
+                e.config.ceiling = low(e);
+                e.sum_limit()
+            });
+            // A product past 64 bits, with a ceiling and without.
+            add("product", 6, |e, _| {
+                e.config.jitter = e.r.pick(&[1, 3, 9]);
+                let quantum = e.r.number() >> e.r.range(8, 40);
+                e.config.quantum = quantum.max(2);
+                let ceiling = low(e);
+                e.config.ceiling = e.choose(0, ceiling);
+                MAX / e.config.quantum + 1 - e.draw()
+            });
+            // The ceiling is above the longest product.
+            add("product-fits", 0, |e, _| {
+                let quanta = e.product_limit();
+                e.config.jitter = 1;
+                e.config.ceiling = MAX - e.t - e.r.below(3);
+                quanta - e.draw()
+            });
+            // A time past 64 bits, by the ceiling.
+            add("time", 6, |e, at| {
+                short(e);
+                e.config.ceiling = MAX - at + e.more();
+                MAX - e.r.below(10)
+            });
+            // A time past 64 bits but for the ceiling.
+            add("time-before", 0, |e, at| {
+                short(e);
+                e.config.ceiling = low(e);
+                MAX - at + e.more() - e.draw()
+            });
+            // It bounds the delay, not the time: behind an earlier one.
+            add("behind", 0, |e, at| {
+                let (base, ns) = some(e);
+                e.config.ceiling = e.r.range(1, ns - 1);
+                let last = at + e.config.ceiling + e.more();
+                e.s.last_delivery = last;
+                e.s.last_observed = last;
+                base
+            });
+        }
     }
 
     fn full_lists(&mut self) {

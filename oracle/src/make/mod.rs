@@ -2,7 +2,7 @@
 
 use std::io::{self, Write};
 
-use crate::case::put_case;
+use crate::case::{Case, Config, put_case};
 use chance::Chance;
 
 mod chance;
@@ -17,6 +17,25 @@ fn log(r: &mut Chance, once_in: u64) -> Option<u64> {
         1 => 12 * r.below(12),
         _ => 12 * r.range(1, 12) - 1,
     })
+}
+
+/// The case, one in four with a ceiling drawn, which may be 0. It is drawn last:
+/// the rest of the case is what it was before there were any.
+fn with_ceiling(r: &mut Chance, mut case: Case) -> Case {
+    fn drawn(r: &mut Chance, config: &Config) -> u64 {
+        let quanta = r.below(6).saturating_mul(config.quantum);
+        match r.below(8) {
+            0 => 1,
+            1 => r.extreme(),
+            2 => quanta.saturating_sub(1),
+            3 => quanta.saturating_add(1),
+            _ => quanta,
+        }
+    }
+    if r.once_in(4) {
+        case.config.ceiling = drawn(r, &case.config);
+    }
+    case
 }
 
 /// Writes the cases from index `first` on; false if there is no such kind.
@@ -34,11 +53,13 @@ pub fn cases(
         let case = match kind {
             "replay" => {
                 let r = &mut Chance::new(seed, index);
-                replay::case(r, format!("replay.{seed}.{index}"))
+                let case = replay::case(r, format!("replay.{seed}.{index}"));
+                with_ceiling(r, case)
             }
             "wild" => {
                 let r = &mut Chance::new(!seed, index);
-                wild::case(r, format!("wild.{seed}.{index}"))
+                let case = wild::case(r, format!("wild.{seed}.{index}"));
+                with_ceiling(r, case)
             }
             "edge" => edges.case(seed, index),
             _ => return Ok(false),

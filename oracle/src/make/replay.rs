@@ -28,6 +28,7 @@ fn busy(r: &mut Chance, case: &mut Case) {
         observation: r.pick(&[12, 16, 40]),
         ack: r.pick(&[0, 0, 0, 1]),
         jitter: 0,
+        ceiling: 0,
         s_max: 1000,
         fill: Fill::Queue {
             rate: r.range(1, 3),
@@ -113,6 +114,7 @@ fn day(r: &mut Chance, name: String) -> Case {
             1 => r.range(1, 5),
             _ => delay(r),
         },
+        ceiling: 0,
         s_max: match r.below(10) {
             0 => r.below(n + 3),
             1 => u64::MAX,

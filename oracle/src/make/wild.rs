@@ -230,6 +230,7 @@ pub fn case(r: &mut Chance, name: String) -> Case {
             let jitter = w.r.pick(&[0, 0, 1, 2, 9]);
             w.or_extreme(jitter)
         },
+        ceiling: 0,
         s_max: {
             let s_max = w.r.pick(&[1000, 1000, 1000, 1000, 21, u64::MAX]);
             w.or_extreme(s_max)

@@ -25,6 +25,7 @@ at_most ceiling None = omega arith
 at_most ceiling (Some ns) = min-le_right ns ceiling
 
 module _ (c : Config) (rng from base : ℕ) where
+  -- the delay that a ceiling is put on
   abbrev d : Option ℕ
   d = delay_ns base (draw rng c.jitter_q).value c.quantum_ns
 
@@ -40,11 +41,11 @@ module _ (c : Config) (rng from base : ℕ) where
   unfolding delay delayed_time under_ceiling pick on_some
   some h = (on_some d (λ ns. min ns c.ceiling_ns) c.ceiling_ns, at_most c.ceiling_ns d, rw (ne_eqb c.ceiling_ns 0 (λ e. omega (arith, h, e))) refl)
 
-  -- a delay that the ceiling leaves is as it was
-  left : under_ceiling c.ceiling_ns d ≡ d → (delay c rng from base).time ≡ time_before c from base (draw rng c.jitter_q).value
+  -- where the ceiling changes no delay, the time is what it was
+  as_before : under_ceiling c.ceiling_ns d ≡ d → (delay c rng from base).time ≡ time_before c from base (draw rng c.jitter_q).value
   unfolding delay delayed_time delay_ns
-  left h = ap (λ q. on_some q (λ ns. fitting (from + ns)) None) h ∙ one_by_one _ _ _
+  as_before h = ap (λ q. on_some q (λ ns. fitting (from + ns)) None) h ∙ one_by_one _ _ _
 
   pub ceiling : Ceiling c rng from base
   unfolding delay
-  ceiling = record { without = λ h. left (none h); within = λ ns e h. left (short ns e h); under = some; drawn = refl }
+  ceiling = record { without = λ h. as_before (none h); within = λ ns e h. as_before (short ns e h); under = some; drawn = refl }

@@ -802,8 +802,9 @@ impl Edges {
         });
     }
 
-    /// N5's ceiling on a delay, which counts from the time that its first step
-    /// gives and whose base its second sets. The generator moves in each.
+    /// N5's ceiling on a report's delay and on an observation's, the generator
+    /// moved in each. Of both there is said from which time the delay counts, and
+    /// where its base stands.
     fn ceilings(&mut self) {
         fn report(e: &mut Edge) -> u64 {
             e.alone();

@@ -23,13 +23,13 @@ fn log(r: &mut Chance, once_in: u64) -> Option<u64> {
 /// the rest of the case is what it was before there were any.
 fn with_ceiling(r: &mut Chance, mut case: Case) -> Case {
     fn drawn(r: &mut Chance, config: &Config) -> u64 {
-        let quanta = r.below(6).saturating_mul(config.quantum);
+        let ns = r.below(6).saturating_mul(config.quantum);
         match r.below(8) {
             0 => 1,
             1 => r.extreme(),
-            2 => quanta.saturating_sub(1),
-            3 => quanta.saturating_add(1),
-            _ => quanta,
+            2 => ns.saturating_sub(1),
+            3 => ns.saturating_add(1),
+            _ => ns,
         }
     }
     if r.once_in(4) {

@@ -1,60 +1,42 @@
 -- A batch: what its calls leave, one by one, is what the rules give for it. Assumes nothing.
-use Prim.Native.Nat.{ℕ, zero, suc, ◌+◌, ◌-◌, ◌/◌, ◌%◌, ◌^◌, ◌<◌, ◌≤◌}
+use Prim.Native.Nat.{ℕ, zero, suc, ◌+◌, ◌-◌, ◌/◌, ◌^◌, ◌<◌, ◌≤◌}
 use mathlib.Core.Bool.{Bool, true, false, ◌&&◌}
 use mathlib.Core.List.{List, [], ◌++◌}
 use mathlib.Core.Path.{◌≡◌, refl, sym, ap, ◌∙◌, subst}
 use native.Mathlib.Omega.{arith}
 use borrow.Author.Tests.{leb-true}
-use lib.Dec.{leb, eqb}
+use lib.Dec.{leb}
 use lib.ListN.{length, length-append}
-use Rattle.std.specs.Prelude.{Ok, Err}
-use Rattle.numbers.specs.Choice.{pick}
-use Rattle.lists.proofs.Cases.{different}
+use Rattle.std.specs.Prelude.{None, Ok, Err}
+use Rattle.numbers.specs.Choice.{pick, on_some}
 use Rattle.book.specs.declared.config.Config.{Config}
 use Rattle.state.specs.Numbers.{refusal_number}
 use Rattle.state.specs.declared.KernelEvent.{KernelEvent}
 use Rattle.state.specs.declared.KernelState.{KernelState}
 use Rattle.state.specs.declared.Refusal.{Refusal}
-use Rattle.state.specs.declared.Refusal.TheVariants.{RowWords, ListCount}
 use Rattle.rules.specs.Run as rules
 use Rattle.rules.specs.Run.{Run}
 use Rattle.rules.specs.Log.{written}
 use Rattle.rules.specs.Phases.{phases}
 use Rattle.rules.specs.Calls as calls
-use Rattle.rules.specs.Calls.{refuse, refusal_of, answer_on, answer, counts_fit, advance, pass}
+use Rattle.rules.specs.Calls.{refuse, refusal_of, answer_on, answer, counts_fit, entry_refusal, advance, pass}
 use Rattle.rules.specs.Batch.{call_records, ending, is_stay, goes_on, run_from, run, returned_run}
+use Rattle.rules.proofs.Entry.{runs_fit, runs_again}
 use Rattle.rules.proofs.HowFar.{few-events}
 use Rattle.reports.specs.Log.{Logged, append_events}
 use Rattle.reports.proofs.Append.{appended_append, appended_all, length-written}
-use Rattle.entry.specs.Entry.{may_advance}
+use Rattle.entry.specs.Entry.{refused_with}
 use Rattle.batch.specs.Batch.{Called, called, told, actual_run}
 use Rattle.batch.proofs.Calls.{pass_fits}
 
--- ---- the tests at entry
--- a batch that is not refused passed both
-pub tests_passed : (words : ℕ) (s : KernelState) {v : Unit {0}} → Ok v ≡ may_advance words s → (eqb (words % 5) 0 ≡ true) × (counts_fit s ≡ true)
-unfolding may_advance pick
-tests_passed words s {v = v} e = go (eqb (words % 5) 0) (counts_fit s) e
-  where
-    go : (b f : Bool) → Ok v ≡ pick b (pick f (Ok tt) (Err ListCount)) (Err RowWords) → (b ≡ true) × (f ≡ true)
-    go true true e = (refl, refl)
-    go true false e = different cc
-    go false f e = different cc
-
-refused_on : (b f : Bool) (a : calls.Answer) (s : KernelState) (r : Refusal) → Err r ≡ pick b (pick f (Ok (tt {0})) (Err ListCount)) (Err RowWords)
-    → pick b (pick f a (refuse 102 s)) (refuse 101 s) ≡ refuse (refusal_number r) s
-unfolding pick
-refused_on true true a s r e = different cc
-refused_on true false a s r e = let q : r ≡ ListCount = cc in rw q
-refused_on false f a s r e = let q : r ≡ RowWords = cc in rw q
-
-pub run_refused : (c : Config) (rows w : List ℕ) (records passes : ℕ) (s : KernelState) {r : Refusal} → Err r ≡ may_advance (length rows) s
+-- ---- a batch that is refused is its first call, which is refused
+pub run_refused : (c : Config) (rows w : List ℕ) (records passes : ℕ) (s : KernelState) (r : Refusal) → refused_with (Err r) ≡ entry_refusal c (length rows) s
     → actual_run (record { answer = Err r; state = s; events = 0; last = 0 }) w ≡ returned_run w (run c rows records passes s)
-unfolding may_advance advance run_from goes_on pick written
-run_refused c rows w records passes s {r} e = go passes
+unfolding advance run_from goes_on pick on_some written
+run_refused c rows w records passes s r e = go passes
   where
     call_is : advance c rows s ≡ refuse (refusal_number r) s
-    call_is = refused_on (eqb (length rows % 5) 0) (counts_fit s) (answer (phases c rows s)) s r e
+    call_is = rw (← e)
 
     go : (n : ℕ) → actual_run (record { answer = Err r; state = s; events = 0; last = 0 }) w ≡ returned_run w (run c rows records n s)
     go zero = rw call_is
@@ -93,8 +75,8 @@ module _ (c : Config) (rows w : List ℕ) (name passes : ℕ) (s₀ : KernelStat
     pub fit : counts_fit s ≡ true
     pub rest : run_from c rows records left events s ≡ run c rows records passes s₀
 
-  pub sofar_none : counts_fit s₀ ≡ true → Sofar passes s₀ lent
-  sofar_none fit = record { events = []; log = unfold append_events in refl; few = omega arith; fit = fit; rest = refl }
+  pub sofar_none : entry_refusal c (length rows) s₀ ≡ None → Sofar passes s₀ lent
+  sofar_none runs = record { events = []; log = unfold append_events in refl; few = omega arith; fit = runs_fit c (length rows) s₀ runs; rest = refl }
 
   -- behind these calls one was made, with so many passes left for the calls after it: b, t and m are what the code left of it, and before is how many events were raised when it began
   pub record Made (left before : ℕ) (b : Bool) (t : KernelState) (m : Logged) : Type 0 where
@@ -109,7 +91,7 @@ module _ (c : Config) (rows w : List ℕ) (name passes : ℕ) (s₀ : KernelStat
   made {s = s} {l = l} S e h = record { from = s; log_from = l; calls = S; call = e; counted = h }
 
   -- a call from s, and what the code left of it
-  module _ (five : eqb (length rows % 5) 0 ≡ true) (short : length w < 2 ^ 60) {left : ℕ} {s : KernelState} {l : Logged} (S : Sofar left s l)
+  module _ (runs : entry_refusal c (length rows) s₀ ≡ None) (short : length w < 2 ^ 60) {left : ℕ} {s : KernelState} {l : Logged} (S : Sofar left s l)
       {b : Bool} {t : KernelState} {m : Logged} (e : called b t m ≡ told l (answer (phases c rows s))) where
     abbrev given : calls.Answer
     given = answer (phases c rows s)
@@ -118,8 +100,8 @@ module _ (c : Config) (rows w : List ℕ) (name passes : ℕ) (s₀ : KernelStat
     all = S.events ++ given.events
 
     call_is : advance c rows s ≡ given
-    unfolding advance pick
-    call_is = rw (five, S.fit)
+    unfolding advance on_some
+    call_is = rw (runs_again c (length rows) s₀ runs s S.fit)
 
     all_few : length all < 2 ^ 64 - 1
     all_few = let g : length given.events ≤ 522 = rw call_is at (few-events c rows s).most in omega (arith, S.few, g, length-append S.events given.events)

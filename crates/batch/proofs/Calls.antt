@@ -10,7 +10,6 @@ use Rattle.state.specs.declared.HaltReason.{HaltReason}
 use Rattle.state.specs.declared.KernelEvent.TheVariants as event
 use Rattle.state.specs.declared.KernelState.{KernelState}
 use Rattle.state.specs.declared.Refusal.{Refusal}
-use Rattle.state.specs.declared.Refusal.TheVariants.{RowWords, ListCount, NotPaused, NoResume, StepLimit}
 use Rattle.rules.specs.Run as rules
 use Rattle.rules.specs.Run.{Run}
 use Rattle.rules.specs.Calls as calls
@@ -21,6 +20,7 @@ use Rattle.reports.specs.declared.Stop.TheVariants.{Left, Halt, Ended}
 use Rattle.reports.proofs.Append.{appended_append}
 use Rattle.reports.proofs.Then.{ran_there}
 use Rattle.entry.specs.Entry.{answer_number, passed}
+use Rattle.entry.proofs.Answered.{ran_by}
 use Rattle.batch.specs.Batch.{called, told}
 
 -- ---- how a step went
@@ -90,11 +90,7 @@ number_high (Err r) n e = refl
 
 number_none : (r : Result (Unit {0}) Refusal) → answer_number r ≡ 0 → is_err r ≡ false
 number_none (Ok v) e = refl
-number_none (Err RowWords) e = absurd (omega arith)
-number_none (Err ListCount) e = absurd (omega arith)
-number_none (Err NotPaused) e = absurd (omega arith)
-number_none (Err NoResume) e = absurd (omega arith)
-number_none (Err StepLimit) e = absurd (omega arith)
+number_none (Err r) e = absurd (false≢true (rw e at (ran_by (Err r))))
 
 -- r and t are what the code's pass answered and left
 module _ (s : KernelState) (r : Result (Unit {0}) Refusal) {t : KernelState} (e : passed r t ≡ returned [] (pass s)) where

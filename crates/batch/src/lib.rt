@@ -64,7 +64,7 @@ pub fn run(
 ) -> Advanced
     ensures { actual_run result log.new ≡ returned_run log.old (run cfg.now rows.now (length log.old / 12) passes state) }
 {
-    if let Err(refusal) = may_advance(rows.len(), &state) {
+    if let Err(refusal) = may_advance(cfg, rows.len(), &state) {
         return Advanced {
             answer: Err(refusal),
             state,

@@ -17,7 +17,7 @@ use Rattle.runtext.specs.Read.{Read, read_text}
 use Rattle.runtext.specs.Uncut.{Uncut}
 use Rattle.runtext.proofs.Uncut.{text_uncut}
 use Rattle.day.specs.EveryEvent.{lines_of, raised_events, EveryEvent}
-use Rattle.day.specs.Replay.{has_more, passed_on, last_of, turns_from, unless_bad, replayed}
+use Rattle.day.specs.Replay.{has_more, passed_on, last_of, turns_from, unless_faulty, replayed}
 use Rattle.day.proofs.Batches.{sum_of, shown, lines_append, whole_lines, one-turn}
 
 module _ (c : Config) (rows : List ℕ) where
@@ -48,7 +48,7 @@ module _ (c : Config) (rows : List ℕ) where
       (r.0, r.1, one-turn c rows n s sum ∙ rw (whole_lines a.events few) r.2)
 
 pub every_event : (turns : ℕ) (text : List ℕ) → EveryEvent turns text
-unfolding unless_bad replayed
+unfolding unless_faulty replayed
 every_event turns text good =
     let q : Read = read_text text (replicate 2560 0) in
     let r = run-prints q.script.cfg (take (q.script.rows * 5) q.words) turns 0 q.script.state (text_uncut text (replicate 2560 0)) in

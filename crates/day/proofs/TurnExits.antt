@@ -2,20 +2,18 @@
 use Prim.Native.Nat.{ℕ, ◌+◌, ◌*◌, ◌/◌, ◌≤◌, ◌<◌}
 use mathlib.Core.Bool.{Bool, true, false}
 use mathlib.Core.List.{List, [], ◌++◌}
-use mathlib.Core.Path.{◌≡◌, refl, sym, ap, ◌∙◌}
+use mathlib.Core.Path.{◌≡◌, sym, ap, ◌∙◌}
 use native.Mathlib.Omega.{arith}
-use lib.Dec.{eqb}
 use lib.ListN.{length, take, drop, get_or}
 use lib.Seq.{take-append_seam}
-use Rattle.std.specs.Prelude.{Result, Ok, Err, is_ok}
+use Rattle.std.specs.Prelude.{is_ok}
 use Rattle.numbers.specs.Choice.{pick}
 use Rattle.state.specs.Numbers.{is_terminal_phase}
 use Rattle.book.specs.declared.config.Config.{Config}
-use Rattle.state.specs.declared.Refusal.{Refusal}
-use Rattle.state.specs.declared.Refusal.TheVariants.{RowWords, ListCount, NotPaused, NoResume, StepLimit}
 use Rattle.rules.specs.Calls as calls
 use Rattle.rules.specs.Batch.{BatchResult, run, returned_run}
-use Rattle.entry.specs.Entry.{answer_number, passed}
+use Rattle.entry.specs.Entry.{passed}
+use Rattle.entry.proofs.Answered.{ran_by}
 use Rattle.batch.specs.Batch.{actual_run}
 use Rattle.batch.specs.declared.Advanced.{Advanced}
 use Rattle.kernel.specs.declared.Passed.{Passed}
@@ -67,15 +65,6 @@ module _ (c : Config) (rows : List ℕ) (from : Progress) (log : List ℕ) (text
     pub ends : k ≡ true → actual_turns false (record { state = a.state; filled = m }) w v ≡ turned c rows from log text
     unfolding has_more passed_on pick
     ends z = rw (whole, ← i, z)
-
-    -- a pass that is not refused is answered by 0
-    ran_by : (r : Result (Unit {0}) Refusal) → is_ok r ≡ eqb (answer_number r) 0
-    ran_by (Ok v) = refl
-    ran_by (Err RowWords) = refl
-    ran_by (Err ListCount) = refl
-    ran_by (Err NotPaused) = refl
-    ran_by (Err NoResume) = refl
-    ran_by (Err StepLimit) = refl
 
     pub goes_on_lem : k ≡ false → (p : Passed) → passed p.answer p.state ≡ calls.returned [] (calls.pass a.state)
         → (o : Bool) → o ≡ is_ok p.answer

@@ -1,4 +1,4 @@
--- Every event of a replay is printed, and no `cut`: what is claimed of every good run text. The proof is proofs/EveryEvent.antt.
+-- Every event of a replay is printed, and no `cut`: what is claimed of every run text that is run. The proof is proofs/EveryEvent.antt.
 use Rattle.std.specs.Prelude.{ℕ, zero, suc, ◌*◌, List, [], ◌∷◌, ◌++◌, ◌≡◌, take, replicate, None}
 use Rattle.numbers.specs.Choice.{pick}
 use Rattle.book.specs.declared.config.Config.{Config}
@@ -22,9 +22,9 @@ raised_events (suc n) c rows s =
     let a : Answer = advance c rows s in
     a.events ++ pick (has_more a.state) (raised_events n c rows (passed_on a.state)) []
 
--- what is printed of a good text: a line for each event of its run, in their order, and the last line. Nothing is left out, and no call adds `cut`
+-- what is printed of a text that is run: a line for each event of its run, in their order, and the last line. Nothing is left out, and no call adds `cut`
 abbrev pub EveryEvent : ℕ → List ℕ → Type 0
 EveryEvent turns text =
     let r : Read = read_text text (replicate 2560 0) in
-    r.bad ≡ None
+    r.fault ≡ None
     → (end : KernelState) × (filled : ℕ) × (replayed turns text ≡ lines_of (raised_events turns r.script.cfg (take (r.script.rows * 5) r.words) r.script.state) ++ last_of end filled)

@@ -5,7 +5,9 @@ use Rattle.state.specs.Numbers.{is_terminal_phase}
 use Rattle.book.specs.declared.config.Config.{Config}
 use Rattle.state.specs.declared.KernelState.{KernelState}
 use Rattle.rules.specs.Calls as calls
-use Rattle.lines.specs.Print.{call_text, filled_after, last_line, bad_line}
+use Rattle.lines.specs.Print.{call_text, filled_after, last_line, bad_line, retired_line}
+use Rattle.runtext.specs.declared.Fault.{Fault}
+use Rattle.runtext.specs.declared.Fault.TheVariants.{TooLong, Line, Retired}
 use Rattle.runtext.specs.Read.{Read, read_text}
 
 -- "The log is 512 records"
@@ -32,13 +34,19 @@ turns_from (suc n) c rows s filled =
     let sum : ℕ = filled_after filled a.log a.count a.count in
     call_text a.log a.count a.count ++ pick (has_more a.state) (turns_from n c rows (passed_on a.state) sum) (last_of (passed_on a.state) sum)
 
--- "prints `bad N` .. and nothing else"
-unfoldable pub unless_bad : Option ℕ → List ℕ → List ℕ
-unless_bad None run = run
-unless_bad (Some n) run = bad_line n
+-- "file too long ..: 0"; "prints `bad N` .. and nothing else"; N11, "prints `retired N` with the line number and nothing runs": the `f` line is the second
+unfoldable pub fault_line : Fault → List ℕ
+fault_line TooLong = bad_line 0
+fault_line (Line n) = bad_line n
+fault_line Retired = retired_line 2
+
+-- of a text that is not run this alone is printed
+unfoldable pub unless_faulty : Option Fault → List ℕ → List ℕ
+unless_faulty None run = run
+unless_faulty (Some f) run = fault_line f
 
 -- what is printed of a text: it is read into the words of 512 rows, and those of its own rows are run
 unfoldable pub replayed : ℕ → List ℕ → List ℕ
 replayed turns text =
     let r : Read = read_text text (replicate 2560 0) in
-    unless_bad r.bad (turns_from turns r.script.cfg (take (r.script.rows * 5) r.words) r.script.state 0)
+    unless_faulty r.fault (turns_from turns r.script.cfg (take (r.script.rows * 5) r.words) r.script.state 0)

@@ -4,14 +4,15 @@
 ghost use Rattle.std.specs.Prelude.{◌≡◌, length, take};
 ghost use Rattle.write.specs.Write.{written};
 ghost use Rattle.day.specs.Day.{actual_turns, turned, PrintsTurns};
-ghost use Rattle.day.specs.Replay.{last_of};
+ghost use Rattle.day.specs.Replay.{last_of, fault_line};
 
 use batch::run;
 use book::config::Config;
 use kernel::pass;
-use lines::{Raised, put_last};
+use lines::{Raised, put_bad, put_last, put_retired};
 use reports::log::WORDS;
-use runtake::MOST_ROWS;
+use runtake::{HEAD_LINES, MOST_ROWS};
+use runtext::Fault;
 use state::KernelState;
 use write::Writer;
 
@@ -20,6 +21,18 @@ pub const LOG_WORDS: usize = 1023 * WORDS;
 
 // Bytes that have room for every line of such a log.
 pub const TEXT_BYTES: usize = 131072;
+
+// What is printed of a text that is not run. Its fill mode, which may be retired, is the last of the first lines.
+#[tactic(auto, unfolding(crate::specs::Replay::fault_line))]
+pub fn put_fault(text: &mut Writer, fault: Fault)
+    ensures { text.new ≡ written text.old (fault_line fault) }
+{
+    match fault {
+        Fault::TooLong => put_bad(text, 0),
+        Fault::Line(n) => put_bad(text, n),
+        Fault::Retired => put_retired(text, HEAD_LINES),
+    }
+}
 
 // How far a run has come: its state, and the lots filled so far.
 #[derive(Clone, Copy)]

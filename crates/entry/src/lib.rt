@@ -2,10 +2,10 @@
 #![tactic(auto)]
 
 ghost use Rattle.std.specs.Prelude.{[], ◌≡◌};
-ghost use Rattle.rules.specs.Calls.{pass, returned, counts_fit, is_paused, can_resume};
-ghost use Rattle.entry.specs.Entry.{answer_number, may_advance, passed};
+ghost use Rattle.rules.specs.Calls.{pass, returned, counts_fit, entry_refusal, is_paused, can_resume};
+ghost use Rattle.entry.specs.Entry.{answer_number, refused_with, passed};
 
-use book::config::ROW_WORDS;
+use book::config::{Config, ROW_WORDS};
 use numbers::words::checked_add;
 use state::{KernelState, Phase, Refusal};
 
@@ -23,17 +23,18 @@ pub fn counts_fit(s: &KernelState) -> bool
 }
 
 // Whether a call of `advance` may run: `words` are those of its rows.
-#[tactic(auto, unfolding(crate::specs::Entry::may_advance, numbers::specs::Choice::pick))]
-pub fn may_advance(words: usize, s: &KernelState) -> Result<(), Refusal>
-    ensures { result ≡ may_advance words s.now }
+#[tactic(auto, unfolding(rules::specs::Calls::entry_refusal, numbers::specs::Choice::pick))]
+pub fn may_advance(cfg: &Config, words: usize, s: &KernelState) -> Result<(), Refusal>
+    ensures { refused_with result ≡ entry_refusal cfg.now words s.now }
 {
     if words % ROW_WORDS != 0 {
-        return Err(Refusal::RowWords);
-    }
-    if counts_fit(s) {
-        Ok(())
-    } else {
+        Err(Refusal::RowWords)
+    } else if !counts_fit(s) {
         Err(Refusal::ListCount)
+    } else if cfg.fill.has_minimum() {
+        Err(Refusal::QueueMinimum)
+    } else {
+        Ok(())
     }
 }
 

@@ -56,25 +56,16 @@ fn cleared_lots(rate: u64, ms: u64, per: u64, ahead: u64, order: &VenueOrder) ->
     cleared.saturating_sub(order.filled)
 }
 
-// The three numbers of the queue's mode are taken apart at the one call, as in the Rust, and no struct holds them.
+// The numbers of the queue's mode are taken apart at the one call, as in the Rust, and no struct holds them.
 #[tactic(auto, unfolding(rules::specs::Matching::queue_fill_lots, numbers::specs::Choice::pick))]
-fn queue_fill_lots(
-    rate_lots: u64,
-    per_ms: u64,
-    min_queue_ms: u64,
-    row: &KernelTick,
-    order: &VenueOrder,
-) -> Option<u64>
-    ensures { result ≡ queue_fill_lots rate_lots per_ms min_queue_ms row.now order.now }
+fn queue_fill_lots(rate_lots: u64, per_ms: u64, row: &KernelTick, order: &VenueOrder) -> Option<u64>
+    ensures { result ≡ queue_fill_lots rate_lots per_ms row.now order.now }
 {
     let ms = row.ts_ns.saturating_sub(order.active_after_ns) / NS_PER_MS;
-    if ms < min_queue_ms {
-        return Some(0);
-    }
+    let ahead = ahead_of(row, order);
     if per_ms == 0 {
         return None;
     }
-    let ahead = ahead_of(row, order);
     Some(cleared_lots(rate_lots, ms, per_ms, ahead, order))
 }
 
@@ -87,7 +78,7 @@ pub fn fill_lots(mode: &FillMode, row: &KernelTick, order: &VenueOrder) -> Optio
         FillMode::QueuePosition {
             rate_lots,
             per_ms,
-            min_queue_ms,
-        } => queue_fill_lots(rate_lots, per_ms, min_queue_ms, row, order),
+            ..
+        } => queue_fill_lots(rate_lots, per_ms, row, order),
     }
 }

@@ -1,4 +1,4 @@
--- A call that raised fewer events than its log holds, one that raised more, a position below 0, a bad line, and what is filled. Document 01's sample is printed whole in `day`. Assumes nothing.
+-- A call that raised fewer events than its log holds, one that raised more, a position below 0, a bad line, one that is retired, and what is filled. Document 01's sample is printed whole in `day`. Assumes nothing.
 use Prim.Native.Nat.{ℕ, zero, suc}
 use mathlib.Core.Path.{◌≡◌, refl}
 use mathlib.Core.List.{List, [], ◌∷◌, ◌++◌}
@@ -7,7 +7,7 @@ use Rattle.numbers.specs.Choice.{pick}
 use Rattle.text.specs.Bytes.{bytes}
 use Rattle.write.specs.Write.{digits, decimal, signed}
 use Rattle.logline.specs.Record.{all, kind_name, report_line, short_line, line_on, event_line}
-use Rattle.lines.specs.Print.{printed, call_text, filled_lots, filled_from, filled_after, last_line, bad_line}
+use Rattle.lines.specs.Print.{printed, call_text, filled_lots, filled_from, filled_after, last_line, bad_line, retired_line}
 
 -- the records of the sample's second call
 second : List ℕ
@@ -24,8 +24,9 @@ examples :
     × (call_text second 5 5 ≡ bytes "rowend 0 20\ndelivered 10 0 1 accepted 0\ndelivered 20 1 1 fill 5\neod 0 0\ncut\n")
     × (last_line (negsuc 11) 7 8 9 ≡ bytes "position -12 live 7 8 filled 9\n")
     × (bad_line 10 ≡ bytes "bad 10\n")
-unfolding second decimal digits signed pick all kind_name report_line short_line line_on event_line printed call_text last_line bad_line
-examples = (refl, refl, refl, refl)
+    × (retired_line 2 ≡ bytes "retired 2\n")
+unfolding second decimal digits signed pick all kind_name report_line short_line line_on event_line printed call_text last_line bad_line retired_line
+examples = (refl, refl, refl, refl, refl)
 
 -- ---- N2, of an order for 10: the words of a report (1), or of one delivered (3), by its kind, last and cum
 on_ten : ℕ → ℕ → ℕ → ℕ → List ℕ

@@ -1,4 +1,4 @@
--- The lines that `replay` prints: those of a call, the last and `bad`.
+-- The lines that `replay` prints: those of a call, the last, `bad` and `retired`.
 use Rattle.std.specs.Prelude.{ℕ, zero, suc, ◌+◌, ◌-◌, ◌/◌, min, ◌&&◌, ◌||◌, List, [], ◌∷◌, ◌++◌, ltb, eqb, ℤ, length, take, drop}
 use Rattle.numbers.specs.Choice.{pick}
 use Rattle.text.specs.Bytes.{bytes}
@@ -38,3 +38,7 @@ last_line p buy sell filled = all (bytes "position " ∷ signed p ∷ bytes " li
 -- "`bad N`"
 unfoldable pub bad_line : ℕ → List ℕ
 bad_line n = all (bytes "bad" ∷ field n ∷ newline ∷ [])
+
+-- N11, "`retired N` with the line number"
+unfoldable pub retired_line : ℕ → List ℕ
+retired_line n = all (bytes "retired" ∷ field n ∷ newline ∷ [])

@@ -1,10 +1,10 @@
-// The lines that `replay` prints: those of a call, with `cut`, the last line, and `bad`.
+// The lines that `replay` prints: those of a call, with `cut`, the last line, `bad` and `retired`.
 #![tactic(auto)]
 
 ghost use Rattle.std.specs.Prelude.{◌≡◌, ◌+◌, ◌-◌, ◌/◌, ◌^◌, min, fold, length, map, take};
 ghost use Rattle.std.specs.Simd.{first_chunks};
 ghost use Rattle.write.specs.Write.{written};
-ghost use Rattle.lines.specs.Print.{records_of, call_text, last_line, bad_line, filled_lots, filled_after};
+ghost use Rattle.lines.specs.Print.{records_of, call_text, last_line, bad_line, retired_line, filled_lots, filled_after};
 
 use logline::{Record, WORDS, put_event};
 use numbers::position::Position;
@@ -103,6 +103,16 @@ pub fn put_bad(text: &mut Writer, n: u64)
     ensures { text.new ≡ written text.old (bad_line n) }
 {
     text.put_bytes(b"bad");
+    text.put_field(n);
+    text.put_byte(b'\n');
+}
+
+// retired N
+#[tactic(auto, using(logline::proofs::LineLaws::pieces), unfolding(crate::specs::Print::retired_line))]
+pub fn put_retired(text: &mut Writer, n: u64)
+    ensures { text.new ≡ written text.old (retired_line n) }
+{
+    text.put_bytes(b"retired");
     text.put_field(n);
     text.put_byte(b'\n');
 }

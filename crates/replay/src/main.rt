@@ -5,7 +5,7 @@ ghost use Rattle.std.specs.Prelude.{◌≤◌, length};
 ghost use Rattle.std.specs.Io.{ReadsAtMost};
 
 use book::config::{Config, ROW_WORDS};
-use day::{LOG_WORDS, Progress, TEXT_BYTES};
+use day::{LOG_WORDS, Progress, TEXT_BYTES, put_fault};
 use lines::put_bad;
 use runtext::{MOST_BYTES, read};
 use state::KernelState;
@@ -19,7 +19,7 @@ use write::Writer;
 // One byte more than a run file may have: it tells that a file is too long.
 const READ_BYTES: usize = MOST_BYTES + 1;
 
-// Bytes for one line: more than `bad N` or the last line has.
+// Bytes for one line: more than `bad N`, `retired N` or the last line has.
 const LINE_BYTES: usize = 4096;
 
 // What `put` writes, which is a line.
@@ -32,8 +32,9 @@ fn print_line<F: FnOnce(&mut Writer)>(rt: &impl Print, put: F) -> io::Result<()>
     rt.write_all(text.as_slice())
 }
 
-fn print_bad(rt: &impl Print, line: u64) -> io::Result<()> {
-    print_line(rt, |text| put_bad(text, line))
+// Of a file that is missing.
+fn print_missing(rt: &impl Print) -> io::Result<()> {
+    print_line(rt, |text| put_bad(text, 0))
 }
 
 // A proved loop has to end, so the batches are counted, to more than any run has: each turn but the last pauses at a row's observation, and a run file has at most 512 rows. A run whose lines cannot be written makes no more calls.
@@ -61,7 +62,7 @@ fn replay_text(rt: &impl Print, text: &[u8]) -> io::Result<()> {
             let words = script.rows.saturating_mul(ROW_WORDS).min(rows.len());
             run(rt, &script.cfg, &rows[..words], script.state)
         }
-        Err(bad) => print_bad(rt, u64::from(bad.fault)),
+        Err(faulty) => print_line(rt, |text| put_fault(text, faulty.fault)),
     }
 }
 
@@ -92,7 +93,7 @@ fn replay_file(rt: &(impl Files + Print), path: &str) -> io::Result<()> {
     let mut text = [0; READ_BYTES];
     match read_file(rt, path, &mut text) {
         Ok(n) => replay_text(rt, &text[..n]),
-        Err(_) => print_bad(rt, 0),
+        Err(_) => print_missing(rt),
     }
 }
 
@@ -100,7 +101,7 @@ fn replay_file(rt: &(impl Files + Print), path: &str) -> io::Result<()> {
 fn replay(rt: &(impl Files + Print), path: &[u8]) -> io::Result<()> {
     match str::from_utf8(path) {
         Ok(name) => replay_file(rt, name),
-        Err(_) => print_bad(rt, 0),
+        Err(_) => print_missing(rt),
     }
 }
 

@@ -1,11 +1,10 @@
 -- Demand 3: what is conserved, over every list of calls. Assumes nothing beyond the three properties.
-use Prim.Native.Nat.{ℕ, ◌+◌, ◌%◌}
+use Prim.Native.Nat.{ℕ, ◌+◌}
 use mathlib.Core.Bool.{Bool, true, false, ◌&&◌, false≢true}
 use mathlib.Core.Path.{◌≡◌, refl, sym, subst}
 use mathlib.Core.List.{List, [], ◌∷◌}
 use native.Mathlib.Omega.{arith}
-use lib.Dec.{leb, eqb}
-use lib.ListN.{length}
+use lib.Dec.{leb}
 use borrow.Author.Tests.{leb-true}
 use Rattle.numbers.specs.Choice.{pick}
 use Rattle.numbers.specs.Words.{fitting}
@@ -22,6 +21,7 @@ use Rattle.rules.specs.Run.{Outcome, Run, ran, left, halt, ended, ran_to, iter}
 use Rattle.rules.specs.Phases.{phase_turn, phases}
 use Rattle.rules.specs.Calls.{Did, refused, stays, halts, ends, Answer, refuse, answer_on, answer, counts_fit, advance, is_paused, can_resume, passed, pass}
 use Rattle.rules.specs.Conservation.{recorded_on, undelivered, Each, Conserved, Closed, Call, advances, passes, answer_to, result, AfterEach, After, Claim}
+use Rattle.rules.proofs.Entry.{advance_case}
 use Rattle.rules.proofs.Positions.{balanced-same, balanced-apart, balanced-joined}
 use Rattle.rules.proofs.Kept.{KeptAt}
 use Rattle.rules.proofs.Held.{when, over, Inv, AtEnd, Good}
@@ -99,11 +99,7 @@ unfolding Well WellBy
 refuse_well r s h = h
 
 advance_well : (c : Config) (rows : List ℕ) (s : KernelState) → Conserved s → Well (advance c rows s)
-unfolding advance
-advance_well c rows s h =
-    pick_case Well (eqb (length rows % 5) 0) _ _
-    (λ _. pick_case Well (counts_fit s) _ _ (λ r. answer_well _ (phases-good c rows s (inside s r h))) (λ _. refuse_well _ s h))
-    (λ _. refuse_well _ s h)
+advance_well c rows s h = advance_case Well c rows s (λ r. answer_well _ (phases-good c rows s (inside s r h))) (λ n. refuse_well n s h)
 
 passed_well : (n : ℕ) (s : KernelState) → Conserved s → Well (passed n s)
 unfolding Well WellBy
@@ -131,10 +127,8 @@ unfolding phases iter phase_turn
 stopped c rows s e = rw e
 
 advance-still : (c : Config) (rows : List ℕ) (s : KernelState) → s.control.phase ≡ Terminal → (advance c rows s).state ≡ s
-unfolding advance answer
-advance-still c rows s e =
-    let Same : Answer → Type 0 = λ a. a.state ≡ s in
-    pick_case Same (eqb (length rows % 5) 0) _ _ (λ _. pick_case Same (counts_fit s) _ _ (λ _. rw (stopped c rows s e)) (λ _. refl)) (λ _. refl)
+unfolding answer
+advance-still c rows s e = advance_case (λ a. a.state ≡ s) c rows s (λ _. rw (stopped c rows s e)) (λ _. refl)
 
 pass-still : (s : KernelState) → s.control.phase ≡ Terminal → (pass s).state ≡ s
 unfolding pass pick

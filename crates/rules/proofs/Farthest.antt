@@ -20,7 +20,7 @@ use Rattle.rules.specs.Report.{delay_ns, under_ceiling, delayed_time, delay, del
 use Rattle.rules.specs.Matching.{match_from, sweep_from, sweep, gate_marked, match_row}
 use Rattle.rules.specs.Events.{due_by, next_msg, next_delivery, next_observation, sooner, next_of, event_turn, weight, run_events}
 use Rattle.rules.specs.Phases.{row_at, queue_observation, match_phase, before_match, settle_row, settle, next_row, obs_queued, phase_turn, turns, phases}
-use Rattle.rules.specs.Calls.{answer, counts_fit, advance}
+use Rattle.rules.specs.Calls.{answer, counts_fit, entry_refusal, advance}
 use Rattle.account.specs.Rows.{empty_agent_account}
 use Rattle.deliveries.specs.Rows.{empty_deliveries}
 use Rattle.msgs.specs.Rows.{empty_msgs}
@@ -56,5 +56,5 @@ waiting n = record {
 -- with 0, 1, .. 16 observations queued and 18 rows the cursor rises by 17, 16, .. 1; the next observation finds the list full
 reached : map (λ n. (advance config (rows_from 18 1) (waiting n)).state.control.cursor) (0 ∷ 1 ∷ 2 ∷ 3 ∷ 4 ∷ 5 ∷ 6 ∷ 7 ∷ 8 ∷ 9 ∷ 10 ∷ 11 ∷ 12 ∷ 13 ∷ 14 ∷ 15 ∷ 16 ∷ [])
     ≡ 17 ∷ 16 ∷ 15 ∷ 14 ∷ 13 ∷ 12 ∷ 11 ∷ 10 ∷ 9 ∷ 8 ∷ 7 ∷ 6 ∷ 5 ∷ 4 ∷ 3 ∷ 2 ∷ 1 ∷ []
-unfolding rows_from config waiting pick fits fitting on_some live insert_at placed put_at entry_at total and_then putting taking iter draw delay_ns under_ceiling delayed_time delay delayed match_from sweep_from sweep gate_marked match_row due_by next_msg next_delivery next_observation sooner next_of event_turn weight run_events row_at queue_observation match_phase before_match settle_row settle next_row obs_queued phase_turn turns phases answer counts_fit advance
+unfolding rows_from config waiting pick fits fitting on_some live insert_at placed put_at entry_at total and_then putting taking iter draw delay_ns under_ceiling delayed_time delay delayed match_from sweep_from sweep gate_marked match_row due_by next_msg next_delivery next_observation sooner next_of event_turn weight run_events row_at queue_observation match_phase before_match settle_row settle next_row obs_queued phase_turn turns phases answer counts_fit entry_refusal advance
 reached = refl

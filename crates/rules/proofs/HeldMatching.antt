@@ -48,8 +48,7 @@ AtMost m (Some n) = n ≤ m
 fill_most : (mode : FillMode) (row : KernelTick) (o : VenueOrder) → AtMost (remaining o) (fill_lots mode row o)
 unfolding AtMost queue_fill_lots
 fill_most Immediate row o = omega arith
-fill_most (QueuePosition rate per least) row o =
-    pick_case (AtMost (remaining o)) _ _ _ (λ _. omega arith) (λ _. pick_case (AtMost (remaining o)) _ _ _ (λ _. tt) (λ _. lots-most _ o))
+fill_most (QueuePosition rate per _) row o = pick_case (AtMost (remaining o)) _ _ _ (λ _. tt) (λ _. lots-most _ o)
 
 -- what is filled is the live order at that place: some lots, and no more than remain
 abbrev pub There : ℕ → Orders → Fills → Type 0

@@ -1,12 +1,10 @@
 -- N8 and the events of a call: how far the cursor goes, what the call raises, and what its messages can still raise. Assumes nothing.
-use Prim.Native.Nat.{ℕ, suc, ◌+◌, ◌-◌, ◌*◌, ◌%◌, ◌≤◌, ◌<◌}
+use Prim.Native.Nat.{ℕ, suc, ◌+◌, ◌-◌, ◌*◌, ◌≤◌, ◌<◌}
 use mathlib.Core.List.{List, [], ◌∷◌}
 use mathlib.Core.Path.{◌≡◌, refl}
 use native.Mathlib.Omega.{arith}
-use lib.Dec.{eqb}
 use lib.ListN.{length, length-take}
 use Rattle.lists.specs.Lists.{below, total}
-use Rattle.lists.proofs.Cases.{pick_case}
 use Rattle.book.specs.declared.MsgKind.{MsgKind}
 use Rattle.book.specs.declared.MsgKind.TheVariants.{Cancel, Activate, Expire}
 use Rattle.book.specs.declared.VenueMsg.{VenueMsg}
@@ -17,9 +15,10 @@ use Rattle.state.specs.declared.Phase.{Phase}
 use Rattle.state.specs.declared.Phase.TheVariants.{BeforeMatch, ObsQueued, AwaitDecision, Terminal}
 use Rattle.rules.specs.Run.{Outcome, Run, ran, left, halt, ended}
 use Rattle.rules.specs.Phases.{on_phase, phase_turn, turns, phases}
-use Rattle.rules.specs.Calls.{Answer, refuse, answer_on, answer, counts_fit, advance}
+use Rattle.rules.specs.Calls.{Answer, refuse, answer_on, answer, advance}
 use Rattle.rules.specs.HowFar.{HowFar}
 use Rattle.rules.specs.FewEvents.{raisable_kind, raisable, msgs_events, queued_events, FewEvents}
+use Rattle.rules.proofs.Entry.{advance_case}
 use Rattle.rules.proofs.Cases.{answer-few}
 use Rattle.rules.proofs.Counts.{Fitting, counts-fitting}
 use Rattle.rules.proofs.Loop.{run_of}
@@ -165,17 +164,14 @@ refused_bounded : (r : ℕ) (s : KernelState) → Bounded s (refuse r s)
 refused_bounded r s = record { reached = record { low = omega arith; high = omega arith; light = omega arith }; few = omega arith; by_messages = omega arith; most = omega arith; beyond = λ b. absurd (omega arith) }
 
 call_bounded : (c : Config) (rows : List ℕ) (s : KernelState) → Bounded s (advance c rows s)
-unfolding advance
-call_bounded c rows s = pick_case (Bounded s) (eqb (length rows % 5) 0) _ _
-    (λ _. pick_case (Bounded s) (counts_fit s) _ _
+call_bounded c rows s = advance_case (Bounded s) c rows s
     (λ e.
     let f = counts-fitting s e in
     let g = phases-far c rows s f in
     let n = answer-few (raised_from s) (phases c rows s) (omega (arith, g.few)) in
     let w = few-msgs s f in
     record { reached = answer-reached (phases c rows s) g; few = n; by_messages = omega arith; most = omega arith; beyond = λ b. omega arith })
-    (λ _. refused_bounded 102 s))
-    (λ _. refused_bounded 101 s)
+    (λ n. refused_bounded n s)
 
 pub how_far : (c : Config) (rows : List ℕ) (s : KernelState) → HowFar c rows s
 how_far c rows s = let g = call_bounded c rows s in record { least = g.reached.low; most = g.reached.high }

@@ -31,6 +31,7 @@ use Rattle.rules.specs.Events.{pop_observation, Class, venue, delivery, observat
 use Rattle.rules.specs.Phases.{queue_observation, match_phase, before_match, settle_row, settle, next_row, obs_queued, on_phase, phase_turn, phases}
 use Rattle.rules.specs.Calls.{Did, refused, stays, halts, ends, Answer, answer_on, answer, advance, pass}
 use Rattle.rules.specs.Conservation.{Each}
+use Rattle.rules.proofs.Entry.{advance_case}
 use Rattle.rules.proofs.Loop.{run_of}
 use Rattle.book.specs.declared.FillRec.{FillRec}
 use Rattle.lists.specs.declared.Arr.{Arr}
@@ -313,8 +314,7 @@ silent : {d : Did} {s : KernelState} → Behind d [] [] → LastEvent (record { 
 silent h = record { front = []; plain = unfold Each in tt; behind = h }
 
 pub advance_last_event : (c : Config) (rows : List ℕ) (s : KernelState) → LastEvent (advance c rows s)
-unfolding advance
-advance_last_event c rows s = pick_case LastEvent _ _ _ (λ _. pick_case LastEvent _ _ _ (λ _. answer_last_event _ (phases-signals c rows s)) (λ _. silent refl)) (λ _. silent refl)
+advance_last_event c rows s = advance_case LastEvent c rows s (λ _. answer_last_event _ (phases-signals c rows s)) (λ _. silent refl)
 
 pub pass_last_event : (s : KernelState) → LastEvent (pass s)
 unfolding pass

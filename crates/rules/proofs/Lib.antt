@@ -10,6 +10,7 @@ pub mod Farthest
 pub mod RowsRead
 pub mod Cases
 pub mod Counts
+pub mod Entry
 pub mod Kept
 pub mod Steps
 pub mod Positions

@@ -1,13 +1,13 @@
 -- A call reads no row but `cur_row` and 17 less its observations from the cursor on: lists that agree there give the same answer. Assumes nothing.
 use Rattle.std.specs.Prelude.{Option, Some, None}
 use Prim.Native.Nat.{ℕ, zero, suc, ◌+◌, ◌/◌, ◌≤◌, ◌<◌}
-use mathlib.Core.Bool.{Bool, true, false}
+use mathlib.Core.Bool.{true, false}
 use mathlib.Core.List.{List}
 use mathlib.Core.Path.{◌≡◌, refl, sym, ap, ◌∙◌}
 use native.Mathlib.Omega.{arith}
 use lib.Dec.{ltb}
 use lib.ListN.{length}
-use Rattle.numbers.specs.Choice.{pick, on_some}
+use Rattle.numbers.specs.Choice.{on_some}
 use Rattle.lists.proofs.Cases.{pick_case}
 use Rattle.book.specs.declared.config.Config.{Config}
 use Rattle.book.specs.declared.config.KernelTick.{KernelTick}
@@ -15,10 +15,11 @@ use Rattle.state.specs.declared.Control.{Control}
 use Rattle.state.specs.declared.KernelState.{KernelState}
 use Rattle.state.specs.declared.Phase.{Phase}
 use Rattle.state.specs.declared.Phase.TheVariants.{BeforeMatch, ObsQueued, AwaitDecision, Terminal}
-use Rattle.rules.specs.Run.{Run, and_then, iter, on_turn}
+use Rattle.rules.specs.Run.{and_then, iter, on_turn}
 use Rattle.rules.specs.Phases.{row_at, before_match, settle, next_row, obs_queued, on_phase, phase_turn, turns, phases}
-use Rattle.rules.specs.Calls.{Answer, answer, advance}
+use Rattle.rules.specs.Calls.{answer, entry_refusal, advance}
 use Rattle.rules.specs.RowsRead.{Alike, AlikeFrom, RowsRead}
+use Rattle.rules.proofs.Entry.{runs_fit}
 use Rattle.rules.proofs.Counts.{Fitting, counts-fitting}
 use Rattle.rules.proofs.Loop.{run_of, same_then, stable}
 use Rattle.rules.proofs.Bounded.{Within, ran_out}
@@ -38,20 +39,20 @@ same_end u v i h = sym (has_row u i) ∙ ap (λ (o : Option KernelTick). on_some
 abbrev AtCurrent : List ℕ → List ℕ → Option ℕ → Type 0
 AtCurrent u v w = (i : ℕ) → w ≡ Some i → Alike u v i
 
-some_alike : (w : Option ℕ) (k j : ℕ → Run) (z : Run) → ((i : ℕ) → w ≡ Some i → k i ≡ j i) → on_some w k z ≡ on_some w j z
+some_alike : {A : Type 0} (w : Option ℕ) (k j : ℕ → A) (y z : A) → ((i : ℕ) → w ≡ Some i → k i ≡ j i) → (w ≡ None → y ≡ z) → on_some w k y ≡ on_some w j z
 unfolding on_some
-some_alike None k j z h = refl
-some_alike (Some i) k j z h = h i refl
+some_alike None k j y z h g = g refl
+some_alike (Some i) k j y z h g = h i refl
 
 module _ (c : Config) (u v : List ℕ) where
   -- ---- the two turns
   before_alike : (s : KernelState) → AtCurrent u v s.control.cur_row → before_match c u s ≡ before_match c v s
   unfolding before_match
-  before_alike s h = some_alike _ _ _ _ (λ i e. rw (h i e))
+  before_alike s h = some_alike _ _ _ _ _ (λ i e. rw (h i e)) (λ _. refl)
 
   settle_alike : (s : KernelState) → AtCurrent u v s.control.cur_row → settle c u s ≡ settle c v s
   unfolding settle
-  settle_alike s h = some_alike _ _ _ _ (λ i e. rw (h i e))
+  settle_alike s h = some_alike _ _ _ _ _ (λ i e. rw (h i e)) (λ _. refl)
 
   next_alike : (s : KernelState) → ltb s.control.cursor (length u / 5) ≡ ltb s.control.cursor (length v / 5) → next_row c u s ≡ next_row c v s
   unfolding next_row
@@ -96,11 +97,6 @@ phases_alike c u v s f h =
     ∙ iter_alike c u v h.onward (suc (turns u s + turns v s)) (raised_from s) s (start-far s f) h.current
     ∙ sym (fuel c v (suc (turns u s + turns v s)) s (omega arith))
 
-pick_alike : (b : Bool) (x y z : Answer) → (b ≡ true → x ≡ y) → pick b x z ≡ pick b y z
-unfolding pick
-pick_alike true x y z h = h refl
-pick_alike false x y z h = refl
-
 pub rows-read : (c : Config) (u v : List ℕ) (s : KernelState) → RowsRead c u v s
-unfolding advance
-rows-read c u v s e h = rw e (pick_alike _ _ _ _ (λ _. pick_alike _ _ _ _ (λ q. ap answer (phases_alike c u v s (counts-fitting s q) h))))
+unfolding advance entry_refusal
+rows-read c u v s e h = rw e (some_alike _ _ _ _ _ (λ _ _. refl) (λ q. ap answer (phases_alike c u v s (counts-fitting s (runs_fit c (length v) s q)) h)))

@@ -36,7 +36,7 @@ use Rattle.rules.specs.Matching.{matches, ahead, lots_of, queue_fill_lots, gate_
 use Rattle.rules.specs.Delivery.{count_fill, count_reject, on_delivery, deliver_next, deliver_all, empty_queues, close_data, end_of_data}
 use Rattle.rules.specs.Events.{pop_observation, due_by, next_msg, next_delivery, next_observation, sooner, next_of, event_turn, weight, run_events}
 use Rattle.rules.specs.Phases.{row_at, queue_observation, match_phase, before_match, settle_row, settle, next_row, obs_queued, phase_turn, turns, phases}
-use Rattle.rules.specs.Calls.{ends, Answer, answer, counts_fit, advance, pass}
+use Rattle.rules.specs.Calls.{ends, Answer, answer, counts_fit, entry_refusal, advance, pass}
 use Rattle.rules.specs.Conservation.{lots_on, carried_on, booked, queued, Each, Conserved, Call, advances, passes, Claim}
 use Rattle.rules.proofs.Conservation.{conservation}
 use Rattle.deliveries.specs.Rows.{empty_deliveries}
@@ -78,7 +78,7 @@ report_of ts seq k lots = record { ts_ns = ts; seq = seq; order_id = 1; side = B
 
 -- advance, pass, advance. To unfold it is to unfold the rules
 unfoldable pub third : Answer
-unfolding pick fits fitting on_some ranged raised_by lowered_by live insert_at remove_at before found_in placed without put_at taken_at entry_at store_at emptied total on_side and_then putting taking iter next_state output draw stamp delay_ns under_ceiling delayed_time delay delayed push_delivery reported queue_delivery released release await await_marked book schedule remove_expiry schedule_expiry accept reject activate activation cancel_booked cancel_activation cancel_awaiting cancel expire_booked expire apply_next_msg matches ahead lots_of queue_fill_lots gate_filled filled_by fill_report fill_counted fill_event fill_at fills_of fills_at match_at match_from leave terminal_at sweep_from sweep gate_marked match_row count_fill count_reject on_delivery deliver_next deliver_all empty_queues close_data end_of_data pop_observation due_by next_msg next_delivery next_observation sooner next_of event_turn weight run_events row_at queue_observation match_phase before_match settle_row settle next_row obs_queued phase_turn turns phases answer counts_fit advance pass
+unfolding pick fits fitting on_some ranged raised_by lowered_by live insert_at remove_at before found_in placed without put_at taken_at entry_at store_at emptied total on_side and_then putting taking iter next_state output draw stamp delay_ns under_ceiling delayed_time delay delayed push_delivery reported queue_delivery released release await await_marked book schedule remove_expiry schedule_expiry accept reject activate activation cancel_booked cancel_activation cancel_awaiting cancel expire_booked expire apply_next_msg matches ahead lots_of queue_fill_lots gate_filled filled_by fill_report fill_counted fill_event fill_at fills_of fills_at match_at match_from leave terminal_at sweep_from sweep gate_marked match_row count_fill count_reject on_delivery deliver_next deliver_all empty_queues close_data end_of_data pop_observation due_by next_msg next_delivery next_observation sooner next_of event_turn weight run_events row_at queue_observation match_phase before_match settle_row settle next_row obs_queued phase_turn turns phases answer counts_fit entry_refusal advance pass
 third = advance config rows (pass (advance config rows start).state).state
 
 events : List KernelEvent

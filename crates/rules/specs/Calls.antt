@@ -1,8 +1,9 @@
 -- The two calls, and 'Refused or halted'.
-use Rattle.std.specs.Prelude.{ℕ, ◌+◌, ◌%◌, Bool, true, false, ◌&&◌, List, [], ◌∷◌, ◌++◌, leb, eqb, length}
+use Rattle.std.specs.Prelude.{ℕ, ◌+◌, ◌%◌, Bool, true, false, ◌&&◌, List, [], ◌∷◌, ◌++◌, leb, eqb, length, Option, Some, None}
 use Rattle.numbers.specs.Choice.{pick, on_some}
 use Rattle.numbers.specs.Words.{fitting}
 use Rattle.book.specs.Capacities.{orders_capacity, msgs_capacity, deliveries_capacity, observed_capacity, account_capacity}
+use Rattle.book.specs.Modes.{has_minimum}
 use Rattle.state.specs.With.{with_control, with_counters, control_phase, control_step, control_status, counters_halts}
 use Rattle.book.specs.declared.VenueMsg.{VenueMsg}
 use Rattle.book.specs.declared.config.Config.{Config}
@@ -55,12 +56,18 @@ counts_fit s =
     leb s.orders.count orders_capacity && leb s.msgs.count msgs_capacity && leb s.awaiting.count orders_capacity
     && leb s.deliveries.count deliveries_capacity && leb s.observed.count observed_capacity && leb s.account.count account_capacity
 
--- "advance entry: row words not a multiple of 5: 101"
+-- what `advance` refuses, in order, of rows of so many words; none where the call runs. "advance entry: row words not a multiple of 5: 101"; N11, "115 if the minimum is above 0, after 102"
+unfoldable pub entry_refusal : Config → ℕ → KernelState → Option ℕ
+entry_refusal c words s =
+    pick (eqb (words % 5) 0)
+    (pick (counts_fit s)
+    (pick (has_minimum c.fill) (Some 115) None)
+    (Some 102))
+    (Some 101)
+
+-- a call is refused, or goes through its phases
 unfoldable pub advance : Config → List ℕ → KernelState → Answer
-advance c rows s =
-    pick (eqb (length rows % 5) 0)
-    (pick (counts_fit s) (answer (phases c rows s)) (refuse 102 s))
-    (refuse 101 s)
+advance c rows s = on_some (entry_refusal c (length rows) s) (λ n. refuse n s) (answer (phases c rows s))
 
 -- "103: not AwaitDecision"
 abbrev pub is_paused : Phase → Bool

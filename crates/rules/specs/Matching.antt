@@ -50,19 +50,17 @@ ahead row o =
 unfoldable pub lots_of : ℕ → VenueOrder → ℕ
 lots_of cumulative o = pick (eqb cumulative 0) 0 (pick (leb o.qty cumulative) (remaining o) (cumulative - o.filled))
 
--- "ms = floor((row time − active_after) / 1,000,000); below `min_queue_ms`, 0"; "`per_ms` 0", after the minimum, is the halt 7, here none;
+-- "ms = floor((row time − active_after) / 1,000,000)"; "`per_ms` 0" is the halt 7, here none;
 -- "Cumulative = floor(`rate_lots` × ms / `per_ms`) − ahead, exact past 64 bits", and a cumulative below 0 is as one of 0
-unfoldable pub queue_fill_lots : ℕ → ℕ → ℕ → KernelTick → VenueOrder → Option ℕ
-queue_fill_lots rate per least row o =
+unfoldable pub queue_fill_lots : ℕ → ℕ → KernelTick → VenueOrder → Option ℕ
+queue_fill_lots rate per row o =
     let ms : ℕ = (row.ts_ns - o.active_after_ns) / 1000000 in
-    pick (ltb ms least) (Some 0)
-    (pick (eqb per 0) None
-    (Some (lots_of (rate * ms / per - ahead row o) o)))
+    pick (eqb per 0) None (Some (lots_of (rate * ms / per - ahead row o) o))
 
--- "Immediate gives all remaining."
+-- "Immediate gives all remaining." The minimum that a mode can carry is no part of the rule (N11)
 abbrev pub fill_lots : FillMode → KernelTick → VenueOrder → Option ℕ
 fill_lots Immediate row o = Some (remaining o)
-fill_lots (QueuePosition rate per least) row o = queue_fill_lots rate per least row o
+fill_lots (QueuePosition rate per _) row o = queue_fill_lots rate per row o
 
 -- ---- a fill of n lots of the order o at place i: s is the state at its stamp
 -- a buy adds to a position, a sell takes away
@@ -145,7 +143,7 @@ fills_of mode row o =
 unfoldable pub fills_at : FillMode → KernelTick → ℕ → Orders → Fills
 fills_at mode row i os = on_some (entry_at orders_capacity blank_order i os) (fills_of mode row) no_fill
 
--- "queue rule, after the minimum: `per_ms` 0: 7"
+-- "queue rule: `per_ms` 0: 7"
 abbrev pub filling : Config → ℕ → KernelState → Fills → Run
 filling c i s no_fill = ran_to s
 filling c i s (fills o n) = fill_at c i o n s

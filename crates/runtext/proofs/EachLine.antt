@@ -26,7 +26,7 @@ use Rattle.rules.specs.Conservation.{of_side}
 use Rattle.text.specs.Fields.{fields}
 use Rattle.runline.specs.Lines.{line_of}
 use Rattle.runtake.specs.Take.{Reading, blank_reading, take_config, take_fill, reserved, put_in, queued, take_order, in_flight, marked_kind, marked, marked_in, take_cancel, take_row, take_line, take_text}
-use Rattle.runtext.specs.Read.{start_state, script_of, Read, closing, read_parts, read_lines, read_text}
+use Rattle.runtext.specs.Read.{start_state, script_of, Read, unless_retired, closing, read_parts, read_lines, read_text}
 use Rattle.runline.specs.declared.Line.{Line}
 use Rattle.runline.specs.declared.Line.TheVariants as line
 use Rattle.runtake.specs.declared.Lots.{Lots}
@@ -122,8 +122,10 @@ module _ (C : Msgs → Lots → AgentAccount → Type 0) (S : KernelState → Ty
 
   -- at the end of the text
   closing_starts : (n : ℕ) (r : Reading) (l : List ℕ) → Of C r → Starts (closing n r l)
-  unfolding closing
-  closing_starts n r l h = pick_case Starts _ _ _ (λ _. pick_case Starts _ _ _ (λ _. script_starts r h) (λ _. script_starts r h)) (λ _. script_starts r h)
+  unfolding closing unless_retired
+  closing_starts n r l h =
+      let s = script_starts r h in
+      pick_case Starts _ _ _ (λ _. pick_case Starts _ _ _ (λ _. s) (λ _. pick_case Starts _ _ _ (λ _. s) (λ _. s))) (λ _. s)
 
   -- line by line, up to the first bad one
   parts-start : (n : ℕ) (r : Reading) (ls : List (List ℕ)) → Of C r → Starts (read_parts n r ls)

@@ -5,7 +5,7 @@ use Rattle.std.specs.Result.{result_or}
 use Prim.Native.Nat.{ℕ, ◌+◌, ◌≤◌, ◌<◌, min}
 use mathlib.Core.Path.{◌≡◌, refl, sym, ap, ◌∙◌}
 use mathlib.Core.Logic.{◌≢◌, ⊎_elim}
-use mathlib.Core.Bool.{false}
+use mathlib.Core.Bool.{true, false}
 use mathlib.Core.List.{List, [], ◌∷◌, ◌++◌}
 use native.Mathlib.Omega.{arith}
 use lib.ListN.{length, take}
@@ -15,14 +15,16 @@ use Rattle.std.proofs.lemmas.Grind.{common_steps}
 use Rattle.std.proofs.lemmas.List.{take_more}
 use borrow.Author.Tests.{le-leb, lt-leb, le-ltb, lt-ltb, eqb-true}
 use Rattle.numbers.specs.Choice.{pick, on_some}
+use Rattle.book.specs.Modes.{has_minimum}
 use Rattle.text.specs.Fields.{parted}
 use Rattle.text.proofs.PartedLaws.{parted_some, Other, parted_whole, parted_at}
 use Rattle.runtake.specs.Take.{Reading, reading_of, Takes, take_text}
 use Rattle.runtake.specs.declared.BadLine.{BadLine}
 use Rattle.runtake.specs.declared.Reading as code
 use Rattle.runtext.specs.declared.Fault.{Fault}
+use Rattle.runtext.specs.declared.Fault.TheVariants.{TooLong, Line, Retired}
 use Rattle.lists.proofs.Cases.{different}
-use Rattle.runtext.specs.Read.{is_empty, closing, good, bad_at, read_parts, read_lines}
+use Rattle.runtext.specs.Read.{is_empty, faultless, faulty, unless_retired, closing, read_parts, read_lines}
 
 parts_there : (l : List ℕ) → is_empty (parted 10 l) ≡ false
 parts_there l = go (parted 10 l) (parted_some 10 l)
@@ -51,25 +53,33 @@ module _ (piece behind rest : List ℕ) (i : ℕ) (cut : rest ≡ piece ++ behin
 
 module _ (n : ℕ) (r : Reading) where
   -- no text is left
-  pub too_few : (rest : List ℕ) → length rest ≡ 0 → n < 2 → read_parts n r (parted 10 rest) ≡ bad_at (n + 1) r
+  pub too_few : (rest : List ℕ) → length rest ≡ 0 → n < 2 → read_parts n r (parted 10 rest) ≡ faulty (Line (n + 1)) r
   unfolding read_parts closing parted pick
   too_few [] z h = rw (lt-ltb n 2 h)
   too_few (x ∷ l) z h = absurd (omega arith)
 
-  pub whole : (rest : List ℕ) → length rest ≡ 0 → 2 ≤ n → read_parts n r (parted 10 rest) ≡ good r
+  at_end : (rest : List ℕ) → length rest ≡ 0 → 2 ≤ n → read_parts n r (parted 10 rest) ≡ unless_retired r
   unfolding read_parts closing parted pick
-  whole [] z h = rw (le-ltb n 2 h)
-  whole (x ∷ l) z h = absurd (omega arith)
+  at_end [] z h = rw (le-ltb n 2 h)
+  at_end (x ∷ l) z h = absurd (omega arith)
+
+  pub retired : (rest : List ℕ) → length rest ≡ 0 → 2 ≤ n → true ≡ has_minimum r.cfg.fill → read_parts n r (parted 10 rest) ≡ faulty Retired r
+  unfolding unless_retired pick
+  retired rest z h m = rw (at_end rest z h, ← m)
+
+  pub whole : (rest : List ℕ) → length rest ≡ 0 → 2 ≤ n → false ≡ has_minimum r.cfg.fill → read_parts n r (parted 10 rest) ≡ faultless r
+  unfolding unless_retired pick
+  whole rest z h m = rw (at_end rest z h, ← m)
 
   -- no newline is left
-  pub unended : (rest : List ℕ) → 0 < length rest → parted 10 rest ≡ rest ∷ [] → read_parts n r (parted 10 rest) ≡ bad_at (n + 1) r
+  pub unended : (rest : List ℕ) → 0 < length rest → parted 10 rest ≡ rest ∷ [] → read_parts n r (parted 10 rest) ≡ faulty (Line (n + 1)) r
   unfolding read_parts closing pick
   unended [] h e = absurd (omega arith)
   unended (x ∷ l) h e = rw e
 
   -- a line and what stands behind it
   module _ (line behind rest : List ℕ) (e : parted 10 rest ≡ line ∷ parted 10 behind) where
-    next_part : read_parts n r (parted 10 rest) ≡ on_some (take_text n line r) (λ t. read_parts (n + 1) t (parted 10 behind)) (bad_at (n + 1) r)
+    next_part : read_parts n r (parted 10 rest) ≡ on_some (take_text n line r) (λ t. read_parts (n + 1) t (parted 10 behind)) (faulty (Line (n + 1)) r)
     unfolding read_parts pick
     next_part = rw (e, parts_there behind)
 
@@ -77,7 +87,7 @@ module _ (n : ℕ) (r : Reading) where
     unfolding on_some
     line_taken t f = rw (next_part, ← f)
 
-    pub line_bad : None ≡ take_text n line r → read_parts n r (parted 10 rest) ≡ bad_at (n + 1) r
+    pub line_bad : None ≡ take_text n line r → read_parts n r (parted 10 rest) ≡ faulty (Line (n + 1)) r
     unfolding on_some
     line_bad f = rw (next_part, ← f)
 
@@ -92,7 +102,7 @@ is_bad (Err b) old new fault t e = (t.0, t.1, cc)
 
 -- ---- the whole text
 module _ (text : List ℕ) (r : Reading) where
-  pub too_long : 65536 < length text → read_lines text r ≡ bad_at 0 r
+  pub too_long : 65536 < length text → read_lines text r ≡ faulty TooLong r
   unfolding read_lines pick
   too_long h = rw (lt-leb (length text) 65536 h)
 

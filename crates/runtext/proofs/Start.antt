@@ -73,12 +73,12 @@ state_conserved : (r : Reading) → CarriedBy r.msgs r.lots → Conserved (start
 unfolding start_state Each total
 state_conserved r h = record { lots = λ d. omega (arith, h.lots d); open_orders = tt; positions = refl }
 
--- ---- a good text starts in a state with the three properties
-pub start_conserved : (text words : List ℕ) → (read_text text words).bad ≡ None → Conserved (read_text text words).script.state
+-- ---- a text that is run starts in a state with the three properties
+pub start_conserved : (text words : List ℕ) → (read_text text words).fault ≡ None → Conserved (read_text text words).script.state
 start_conserved text words good = text_starts Carried Conserved state_conserved blank_carried order_carried cancel_carried text words
 
 -- so what is claimed of every list of calls is so of every replay of it
-pub replay_conserved : (text words : List ℕ) → (read_text text words).bad ≡ None → (calls : List Call) → Claim calls (read_text text words).script.state
+pub replay_conserved : (text words : List ℕ) → (read_text text words).fault ≡ None → (calls : List Call) → Claim calls (read_text text words).script.state
 replay_conserved text words good calls = conservation (read_text text words).script.state (start_conserved text words good) calls
 
 -- ---- where a replay reaches end of data
@@ -96,8 +96,8 @@ unfolding Claim GoOn
 claim_ends [] s t g c dropped e h = (rw (g, e) at h).0
 claim_ends (b ∷ cs) s t g c dropped e h = claim_ends cs (result b s).state t g.1 c dropped e (claim_rest (answer_to b s).did _ _ _ g.0 h)
 
--- a replay of a good text reaches end of data: both positions are equal there, and each side's live lots are those of booked orders and of dropped activations
-pub replay_ends : (text words : List ℕ) → (read_text text words).bad ≡ None
+-- a replay that reaches end of data: both positions are equal there, and each side's live lots are those of booked orders and of dropped activations
+pub replay_ends : (text words : List ℕ) → (read_text text words).fault ≡ None
     → (cs : List Call) (t : KernelState) → GoOn cs (read_text text words).script.state t
     → (c : Call) (dropped : List VenueMsg) → (answer_to c t).did ≡ ends dropped → Closed dropped (result c t).state
 replay_ends text words good cs t g c dropped e = claim_ends cs _ t g c dropped e (replay_conserved text words good (cs ++ c ∷ []))

@@ -1,6 +1,7 @@
 -- A run file: its lines, its first bad line, and the state at the start.
 use Rattle.std.specs.Prelude.{ℕ, ◌+◌, Bool, true, false, List, [], ◌∷◌, ltb, leb, eqb, pos, length, Option, Some, None, Result, Ok, Err}
 use Rattle.numbers.specs.Choice.{pick, on_some}
+use Rattle.book.specs.Modes.{has_minimum}
 use Rattle.orders.specs.Rows.{empty_orders}
 use Rattle.deliveries.specs.Rows.{empty_deliveries}
 use Rattle.observed.specs.Rows.{empty_observed}
@@ -9,9 +10,9 @@ use Rattle.state.specs.declared.Phase.TheVariants.{ObsQueued}
 use Rattle.state.specs.declared.Status.TheVariants.{Running}
 use Rattle.text.specs.Fields.{parted}
 use Rattle.runtake.specs.Take.{Reading, blank_reading, take_text}
-use Rattle.runtext.specs.declared.BadFile.{BadFile}
 use Rattle.runtext.specs.declared.Fault.{Fault}
-use Rattle.runtext.specs.declared.Fault.TheVariants.{TooLong, Line}
+use Rattle.runtext.specs.declared.Fault.TheVariants.{TooLong, Line, Retired}
+use Rattle.runtext.specs.declared.Faulty.{Faulty}
 use Rattle.runtext.specs.declared.Script.{Script}
 
 -- ---- the state at the start
@@ -41,52 +42,51 @@ start_state r = record {
 unfoldable pub script_of : Reading → Script
 script_of r = record { cfg = r.cfg; state = start_state r; rows = r.rows }
 
--- a file that was read: the number of its first bad line, or none, its run (of a bad file that of the lines above), and the words that its rows were read into
+-- a file that was read: why it is not run, or none, its run (of a bad file that of the lines above its first bad one), and the words that its rows were read into
 pub record Read : Type 0 where
-  pub bad : Option ℕ
+  pub fault : Option Fault
   pub script : Script
   pub words : List ℕ
 
--- "file too long ..: 0"; the number of a bad line
-abbrev pub fault_number : Fault → ℕ
-fault_number TooLong = 0
-fault_number (Line n) = n
-
 -- what the code answers
-abbrev pub read_of : Result Script BadFile → List ℕ → Read
-read_of (Ok s) w = record { bad = None; script = s; words = w }
-read_of (Err b) w = record { bad = Some (fault_number b.fault); script = b.above; words = w }
+abbrev pub read_of : Result Script Faulty → List ℕ → Read
+read_of (Ok s) w = record { fault = None; script = s; words = w }
+read_of (Err f) w = record { fault = Some f.fault; script = f.script; words = w }
 
--- a good file, of which this was read
-abbrev pub good : Reading → Read
-good r = record { bad = None; script = script_of r; words = r.words }
+-- a file that is run, of which this was read
+abbrev pub faultless : Reading → Read
+faultless r = record { fault = None; script = script_of r; words = r.words }
 
--- a bad one: the number that is printed of it, and what was read above that line
-abbrev pub bad_at : ℕ → Reading → Read
-bad_at n r = record { bad = Some n; script = script_of r; words = r.words }
+-- one that is not
+abbrev pub faulty : Fault → Reading → Read
+faulty f r = record { fault = Some f; script = script_of r; words = r.words }
 
 -- the same of the code that reads the lines
 abbrev pub lines_read : Result (Unit {0}) Fault → Reading → Read
-lines_read (Ok v) r = good r
-lines_read (Err fault) r = bad_at (fault_number fault) r
+lines_read (Ok v) r = faultless r
+lines_read (Err f) r = faulty f r
 
 -- nothing is left
 abbrev pub is_empty : {A : Type 0} → List A → Bool
 is_empty [] = true
 is_empty (x ∷ l) = false
 
+-- of "a file with no bad line": N11, "a value above 0 .. prints `retired N` with the line number and nothing runs"
+unfoldable pub unless_retired : Reading → Read
+unless_retired r = pick (has_minimum r.cfg.fill) (faulty Retired r) (faultless r)
+
 -- what stands behind the last newline, after n lines: a line that is not newline-ended is bad; and with no `c` or no `f`, "absent line: the next number". "`bad N` (from 1 ..)"
 unfoldable pub closing : ℕ → Reading → List ℕ → Read
-closing n r l = pick (is_empty l) (pick (ltb n 2) (bad_at (n + 1) r) (good r)) (bad_at (n + 1) r)
+closing n r l = pick (is_empty l) (pick (ltb n 2) (faulty (Line (n + 1)) r) (unless_retired r)) (faulty (Line (n + 1)) r)
 
 -- the parts of the text between its newlines, behind n lines that were read, up to "the first bad line"; the last part stands behind the last newline
 unfoldable pub read_parts : ℕ → Reading → List (List ℕ) → Read
 read_parts n r [] = closing n r []
-read_parts n r (l ∷ ls) = pick (is_empty ls) (closing n r l) (on_some (take_text n l r) (λ t. read_parts (n + 1) t ls) (bad_at (n + 1) r))
+read_parts n r (l ∷ ls) = pick (is_empty ls) (closing n r l) (on_some (take_text n l r) (λ t. read_parts (n + 1) t ls) (faulty (Line (n + 1)) r))
 
 -- "at most 65,536 bytes, newline-ended lines"; "file too long ..: 0"
 unfoldable pub read_lines : List ℕ → Reading → Read
-read_lines text r = pick (leb (length text) 65536) (read_parts 0 r (parted 10 text)) (bad_at 0 r)
+read_lines text r = pick (leb (length text) 65536) (read_parts 0 r (parted 10 text)) (faulty TooLong r)
 
 -- a whole text, the rows' words going to the front of those that were lent
 unfoldable pub read_text : List ℕ → List ℕ → Read

@@ -1,4 +1,4 @@
--- Of a replay that reaches end of data: the calls before that one. The theorems about every good run text are proofs/Start.antt.
+-- Of a replay that reaches end of data: the calls before that one. The theorems about every run text that is run are proofs/Start.antt.
 use Rattle.std.specs.Prelude.{List, [], ◌∷◌, ◌≡◌}
 use Rattle.state.specs.declared.KernelState.{KernelState}
 use Rattle.rules.specs.Calls.{Did, refused, stays, halts, ends}

@@ -3,7 +3,7 @@
 
 ghost use Rattle.std.specs.Prelude.{◌≡◌, ◌&&◌, eqb, leb, length};
 ghost use Rattle.runtake.specs.Take.{reading_of, Takes, take_text};
-ghost use Rattle.runtext.specs.Read.{fault_number, seeded, start_state, script_of, read_of, lines_read, read_lines, read_text};
+ghost use Rattle.runtext.specs.Read.{seeded, start_state, script_of, read_of, lines_read, read_lines, read_text};
 
 use book::config::Config;
 use runline::line_of;
@@ -24,30 +24,19 @@ pub struct Script {
     pub rows: usize,
 }
 
-// What is wrong with a run file: it is too long, or this is the number of its first bad line, from 1. What is printed of it is a number.
+// Why a run file is not run: it is too long, this is the number of its first bad line, from 1, or no line is bad and its fill mode carries a minimum. What is printed of it is `day`'s to say.
 #[derive(Clone, Copy, Debug, PartialEq, Eq)]
 pub enum Fault {
     TooLong,
     Line(u64),
+    Retired,
 }
 
-// The number that `bad` prints of it.
-impl From<Fault> for u64 {
-    ghost from_gives = { λ fault n. n ≡ fault_number fault };
-
-    fn from(fault: Fault) -> u64 {
-        match fault {
-            Fault::TooLong => 0,
-            Fault::Line(n) => n,
-        }
-    }
-}
-
-// A bad run file, with the run of the lines above its first bad one. What is printed of it is the fault's number.
+// A run file that is not run, with the run of the lines that were read: of a bad one those above its first bad line.
 #[derive(Clone, Copy)]
-pub struct BadFile {
+pub struct Faulty {
     pub fault: Fault,
-    pub above: Script,
+    pub script: Script,
 }
 
 #[tactic(auto, using(std::proofs::lemmas::Bool::Decides::nat_tests), unfolding(crate::specs::Read::seeded, numbers::specs::Choice::pick))]
@@ -105,7 +94,7 @@ fn take_text(reading: &mut Reading, n: u64, line: &[u8]) -> Result<(), BadLine>
     reading.take_line(n, line_of(line).ok_or(BadLine)?)
 }
 
-// The lines of the text, up to the first bad one. A piece without a newline is a last line that is not ended, which is bad. So is an absent `c` or `f`. The lines are counted, and not numbered by `enumerate`, since behind the loop too it is asked how many there were.
+// The lines of the text, up to the first bad one. A piece without a newline is a last line that is not ended, which is bad. So is an absent `c` or `f`. Only a text with no bad line is retired for its minimum. The lines are counted, and not numbered by `enumerate`, since behind the loop too it is asked how many there were.
 fn read_lines(reading: &mut Reading, text: &[u8]) -> Result<(), Fault>
     ensures reads { lines_read result (reading_of reading.new) ≡ read_lines text.now (reading_of reading.old) }
     ensures lent { reading.new.words.ghost_name ≡ reading.old.words.ghost_name }
@@ -122,12 +111,15 @@ fn read_lines(reading: &mut Reading, text: &[u8]) -> Result<(), Fault>
     if n < HEAD_LINES {
         return Err(Fault::Line(n + 1));
     }
+    if reading.cfg.fill.has_minimum() {
+        return Err(Fault::Retired);
+    }
     Ok(())
 }
 
 // The whole file. The words of its rows go to the front of `words`.
 #[tactic(auto, unfolding(crate::specs::Read::read_text))]
-pub fn read(text: &[u8], words: &mut [u64; MOST_WORDS]) -> Result<Script, BadFile>
+pub fn read(text: &[u8], words: &mut [u64; MOST_WORDS]) -> Result<Script, Faulty>
     ensures { read_of result words.new ≡ read_text text.now words.old }
 {
     let mut reading = Reading::new(words);
@@ -135,9 +127,6 @@ pub fn read(text: &[u8], words: &mut [u64; MOST_WORDS]) -> Result<Script, BadFil
     let script = Script::from(&reading);
     match outcome {
         Ok(()) => Ok(script),
-        Err(fault) => Err(BadFile {
-            fault,
-            above: script,
-        }),
+        Err(fault) => Err(Faulty { fault, script }),
     }
 }

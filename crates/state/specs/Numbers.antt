@@ -5,7 +5,7 @@ use Rattle.state.specs.declared.HaltReason.TheVariants.{LedgerOverflow, TimeOver
 use Rattle.state.specs.declared.Phase.{Phase}
 use Rattle.state.specs.declared.Phase.TheVariants.{BeforeMatch, ObsQueued, AwaitDecision, Terminal}
 use Rattle.state.specs.declared.Refusal.{Refusal}
-use Rattle.state.specs.declared.Refusal.TheVariants.{RowWords, ListCount, NotPaused, NoResume, StepLimit}
+use Rattle.state.specs.declared.Refusal.TheVariants.{RowWords, ListCount, NotPaused, NoResume, StepLimit, QueueMinimum}
 
 -- the halts of 'Refused or halted'
 abbrev pub halt_number : HaltReason → ℕ
@@ -20,6 +20,7 @@ refusal_number ListCount = 102
 refusal_number NotPaused = 103
 refusal_number NoResume = 104
 refusal_number StepLimit = 105
+refusal_number QueueMinimum = 115
 
 -- whether the run is over
 abbrev pub is_terminal_phase : Phase → Bool

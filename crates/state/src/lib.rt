@@ -194,6 +194,7 @@ pub enum Refusal {
     NotPaused,
     NoResume,
     StepLimit,
+    QueueMinimum,
 }
 
 // The paper's number, beside its case, as in `book`.
@@ -207,6 +208,7 @@ impl From<Refusal> for u64 {
             Refusal::NotPaused => 103,
             Refusal::NoResume => 104,
             Refusal::StepLimit => 105,
+            Refusal::QueueMinimum => 115,
         }
     }
 }

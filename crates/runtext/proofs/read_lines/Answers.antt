@@ -11,7 +11,7 @@ use Rattle.std.proofs.lemmas.Option.{MatchOption-at_none, MatchOption-at_some}
 use Rattle.std.proofs.lemmas.Result.{err_from_is_err_and}
 use Rattle.std.proofs.lemmas.Slice.Eq.{strip_suffix_is}
 use Rattle.lists.proofs.Cases.{none_of}
-use Rattle.runtext.proofs.ReadLaws.{whole, too_few, unended, is_taken, is_bad, line_taken, line_bad, too_long, not_long, piece_ended, piece_unended}
+use Rattle.runtext.proofs.ReadLaws.{retired, whole, too_few, unended, is_taken, is_bad, line_taken, line_bad, too_long, not_long, piece_ended, piece_unended}
 use Rattle.runtext.proofs.read_lines.Goals as goal
 
 pub returns-then-text-gt-MOST_BYTES-clause-reads : goal.returns-then-text-gt-MOST_BYTES-clause-reads
@@ -49,5 +49,10 @@ loop-piece-preserved c =
 pub returns-then-n-lt-HEAD_LINES-clause-reads : goal.returns-then-n-lt-HEAD_LINES-clause-reads
 returns-then-n-lt-HEAD_LINES-clause-reads c = sym (not_long _ _ c.if-text-gt-MOST_BYTES.false ∙ c.loop-piece.invariant.same ∙ too_few _ _ _ c.in-None.ensures.steps.0 c.if-n-lt-HEAD_LINES.true)
 
+pub returns-then-has_minimum-clause-reads : goal.returns-then-has_minimum-clause-reads
+returns-then-has_minimum-clause-reads c =
+    sym (not_long _ _ c.if-text-gt-MOST_BYTES.false ∙ c.loop-piece.invariant.same ∙ retired _ _ _ c.in-None.ensures.steps.0 c.if-n-lt-HEAD_LINES.false c.if-has_minimum.ensures)
+
 pub returns-clause-reads : goal.returns-clause-reads
-returns-clause-reads c = sym (not_long _ _ c.if-text-gt-MOST_BYTES.false ∙ c.loop-piece.invariant.same ∙ whole _ _ _ c.in-None.ensures.steps.0 c.if-n-lt-HEAD_LINES.false)
+returns-clause-reads c =
+    sym (not_long _ _ c.if-text-gt-MOST_BYTES.false ∙ c.loop-piece.invariant.same ∙ whole _ _ _ c.in-None.ensures.steps.0 c.if-n-lt-HEAD_LINES.false c.if-has_minimum.ensures)

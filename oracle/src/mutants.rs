@@ -286,7 +286,7 @@ const MUTANTS: &[Mutant] = &[
         "(row.bid > order.price, row.ask_lots)",
     ),
     mutant(
-        "queue-minimum",
+        "queue-first-millisecond",
         "step",
         "if in_queue_ms < min_queue_ms {",
         "if in_queue_ms <= min_queue_ms {",
@@ -302,12 +302,6 @@ const MUTANTS: &[Mutant] = &[
         "step",
         "    let cleared = u128::from(rate_lots)\n        .checked_mul(u128::from(in_queue_ms))?\n",
         "    let cleared = u128::from(rate_lots.saturating_mul(in_queue_ms))\n",
-    ),
-    mutant(
-        "queue-per-before-minimum",
-        "step",
-        "    let in_queue_ms = in_queue_ns.checked_div(NS_PER_MS)?;\n",
-        "    let in_queue_ms = in_queue_ns.checked_div(NS_PER_MS)?;\n    let _ = in_queue_ms.checked_div(per_ms)?;\n",
     ),
     mutant(
         "fill-price-not-doubled",

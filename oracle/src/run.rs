@@ -1,12 +1,12 @@
-//! Runs cases: document 01's refusals and `pass` around the kernel's `advance`,
-//! which is the published one, or the one with document 02's requests where a
-//! case has what only that knows.
+//! Runs cases: document 01's refusals and `pass`, and document 02's refusal of a
+//! minimum queue time, around the kernel's `advance`, which is the published one,
+//! or the one with document 02's requests where a case has what only that knows.
 
 use std::io::{self, BufRead, Write};
 
 use crate::backtest::kernel::glue as published;
 use crate::case::{
-    AWAIT_DECISION, BEFORE_MATCH, Case, Config, EVENT, LONG, OBS_QUEUED, Reader, State, Stop,
+    AWAIT_DECISION, BEFORE_MATCH, Case, Config, EVENT, Fill, LONG, OBS_QUEUED, Reader, State, Stop,
     TERMINAL, put_line, put_state,
 };
 use crate::requests::kernel::glue as requests;
@@ -54,6 +54,10 @@ fn advance(case: &Case, with: &Prepared, s: &mut State, log: &mut Log) -> u64 {
     }
     if s.overfull() {
         return 102;
+    }
+    // N11: no minimum queue time, whether the rule would come to ask for it or not.
+    if let Fill::Queue { min: 1.., .. } = case.config.fill {
+        return 115;
     }
     with.advance(s, log);
     0

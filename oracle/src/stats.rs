@@ -46,14 +46,22 @@ struct Family {
     first: Counts,
 }
 
-/// The rows of document 01's "Refused or halted", each with the scenarios whose
-/// cases stand on both sides of it (by the start of their names).
-const ROWS: [(&str, &[&str]); 18] = [
-    ("101 row words", &["rows-torn", "order-101-102"]),
-    ("102 list count", &["count-", "order-102-103"]),
+/// The rows of document 01's "Refused or halted", and document 02's refusal of a
+/// minimum queue time, each with the scenarios whose cases stand on both sides of
+/// it (by the start of their names).
+const ROWS: [(&str, &[&str]); 19] = [
+    (
+        "101 row words",
+        &["rows-torn", "order-101-102", "order-101-115"],
+    ),
+    (
+        "102 list count",
+        &["count-", "order-102-103", "order-102-115", "pass-count-"],
+    ),
     ("103 not paused", &["pass-phase", "order-103-104"]),
     ("104 no resume", &["pass-resume", "order-104-105"]),
     ("105 step", &["pass-step"]),
+    ("115 minimum", &["minimum-"]),
     ("7 current row", &["row-none", "row-absent-"]),
     ("6 expiry time", &["expiry-time", "order-expiry-6-7"]),
     ("7 message number", &["expiry-seq"]),
@@ -110,7 +118,7 @@ fn around(families: &BTreeMap<String, Family>) {
         )
     };
     println!("around each refusal and halt, both sides:");
-    for number in ["101", "102", "103", "104", "105", "5", "6", "7", ""] {
+    for number in ["101", "102", "103", "104", "105", "115", "5", "6", "7", ""] {
         let label = if number.is_empty() { "none" } else { number };
         println!("  {label:24} {}", of(&|_, gives| gives == number));
     }

@@ -1,5 +1,6 @@
 //! For each row of document 01's "Refused or halted" a case that reaches it
-//! and a twin that just does not, and the same for the rules' own limits.
+//! and a twin that just does not, and the same for the rules' own limits and for
+//! document 02's ceiling and its refusal of a minimum queue time.
 //!
 //! A scenario sets one thing up in an otherwise harmless random state. Case 2n
 //! and case 2n + 1 are twins: they draw the same numbers.
@@ -8,7 +9,7 @@ use super::chance::{Chance, xorshift};
 use super::wild::overfill;
 use crate::case::{
     AWAIT_DECISION, BEFORE_MATCH, Case, Config, DLV, Delivery, EVENT, Fill, MSG, Msg, OBS,
-    OBS_QUEUED, ORD, Obs, Open, Order, State,
+    OBS_QUEUED, ORD, Obs, Open, Order, State, TERMINAL,
 };
 
 const MAX: u64 = u64::MAX;
@@ -448,6 +449,28 @@ impl<'a> Edge<'a> {
         };
     }
 
+    /// When hit, words too few or too many for whole rows.
+    fn torn(&mut self) {
+        let extra = self.r.range(1, 4);
+        if self.hit {
+            match extra % 2 {
+                0 => self.rows.truncate(self.rows.len() - extra as usize),
+                _ => self.rows.extend(0..extra),
+            }
+        }
+    }
+
+    /// An order to match by the queue rule, and a minimum queue time, or none.
+    fn minimum(&mut self, there: bool) {
+        self.place(Match);
+        let min = self.r.pick(&[1, 1, 2, 1_000, MAX]);
+        self.config.fill = Fill::Queue {
+            rate: self.r.below(12),
+            per: self.r.range(1, 3),
+            min: if there { min } else { 0 },
+        };
+    }
+
     /// The jitter's next draw.
     fn draw(&self) -> u64 {
         match (self.config.jitter, xorshift(self.s.rng).1) {
@@ -507,6 +530,7 @@ impl Edges {
             scenarios: Vec::new(),
         };
         edges.refusals();
+        edges.minima();
         edges.rows_and_messages();
         edges.gate_and_delay();
         edges.ceilings();
@@ -550,20 +574,11 @@ impl Edges {
     }
 
     fn refusals(&mut self) {
-        fn torn(e: &mut Edge) {
-            let extra = e.r.range(1, 4);
-            if e.hit {
-                match extra % 2 {
-                    0 => e.rows.truncate(e.rows.len() - extra as usize),
-                    _ => e.rows.extend(0..extra),
-                }
-            }
-        }
-        self.add("rows-torn", 101, torn);
+        self.add("rows-torn", 101, |e| e.torn());
         self.add("rows-torn-pass", 0, |e| {
             e.paused();
             e.calls = vec![1];
-            torn(e);
+            e.torn();
         });
         let lists: [(&str, Set); 6] = [
             ("orders", |e| {
@@ -601,7 +616,7 @@ impl Edges {
         }
         self.add("order-101-102", 101, |e| {
             overfill(e.r, &mut e.s);
-            torn(e);
+            e.torn();
         });
         self.add("pass-phase", 103, |e| {
             e.paused();
@@ -639,6 +654,78 @@ impl Edges {
             let (bad, good) = (e.r.pick(&[4, 5]), e.r.pick(&[1, 3]));
             e.s.resume = e.choose(bad, good);
         });
+    }
+
+    /// N11's refusal of a minimum queue time.
+    fn minima(&mut self) {
+        for (label, phase) in [
+            ("before-match", BEFORE_MATCH),
+            ("obs-queued", OBS_QUEUED),
+            ("await-decision", AWAIT_DECISION),
+            ("terminal", TERMINAL),
+        ] {
+            self.add(format!("minimum-{label}"), 115, move |e| {
+                e.minimum(e.hit);
+                e.s.phase = phase;
+                if phase == TERMINAL {
+                    e.s.status = e.r.pick(&[[1, 0], [2, 0], [3, 7]]);
+                }
+            });
+        }
+        self.add("minimum-turns", 115, |e| {
+            e.minimum(e.hit);
+            e.s.phase = e.r.pick(&[1, 3, 4, 5]);
+            e.calls = vec![2];
+        });
+        self.add("minimum-per-0", 115, |e| {
+            // Without the minimum the rule halts 7.
+            e.minimum(e.hit);
+            if let Fill::Queue { per, .. } = &mut e.config.fill {
+                *per = 0;
+            }
+        });
+        self.add("order-101-115", 101, |e| {
+            e.minimum(true);
+            e.s.phase = e.r.pick(&[1, 3, 4, 5]);
+            e.torn();
+        });
+        self.add("order-102-115", 102, |e| {
+            e.minimum(true);
+            e.s.phase = e.r.pick(&[1, 3, 4, 5]);
+            if e.hit {
+                overfill(e.r, &mut e.s);
+            }
+        });
+        // `pass` does not look at it: it passes, or has its own refusals.
+        self.add("minimum-pass", 0, |e| {
+            e.paused();
+            e.calls = e.r.pick(&[&[1][..], &[1, 0], &[1, 1]]).to_vec();
+            e.minimum(e.hit);
+        });
+        let refusals: [(&str, u64, Set); 4] = [
+            ("count", 102, |e| {
+                if e.hit {
+                    overfill(e.r, &mut e.s);
+                }
+            }),
+            ("phase", 103, |e| {
+                let other = e.r.pick(&[1, 3, 5]);
+                e.s.phase = e.choose(other, AWAIT_DECISION);
+            }),
+            ("resume", 104, |e| {
+                let (bad, good) = (e.r.pick(&[4, 5]), e.r.pick(&[1, 3]));
+                e.s.resume = e.choose(bad, good);
+            }),
+            ("step", 105, |e| e.s.step = MAX - 1 + e.more()),
+        ];
+        for (what, gives, set) in refusals {
+            self.add(format!("pass-{what}-minimum"), gives, move |e| {
+                e.paused();
+                e.calls = vec![1];
+                e.minimum(true);
+                set(e);
+            });
+        }
     }
 
     fn rows_and_messages(&mut self) {
@@ -1361,8 +1448,8 @@ impl Edges {
     }
 
     fn queue_rule(&mut self) {
-        /// A crossing order and the rule's numbers: (rate, per, min, ms).
-        fn set(e: &mut Edge, qty: u64, filled: u64, through: bool, [rate, per, min, ms]: [u64; 4]) {
+        /// A crossing order and the rule's numbers: (rate, per, ms).
+        fn set(e: &mut Edge, qty: u64, filled: u64, through: bool, [rate, per, ms]: [u64; 3]) {
             let mut order = e.crossing(45);
             order.qty = qty;
             order.filled = filled;
@@ -1382,7 +1469,7 @@ impl Edges {
             order.active = e.t - ms * 1_000_000 - spare;
             e.alone();
             e.s.observed.truncate(0);
-            e.config.fill = Fill::Queue { rate, per, min };
+            e.config.fill = Fill::Queue { rate, per, min: 0 };
             e.book(order);
         }
         fn ahead(e: &mut Edge, lots: u64) {
@@ -1391,13 +1478,17 @@ impl Edges {
             e.rows[at + 4] = lots;
         }
         self.add("queue-per-0", 7, |e| {
-            let ms = e.r.range(1, 9);
-            set(e, 9, 0, true, [3, 0, ms + 1 - e.more(), ms]);
+            // In the first millisecond, where nothing clears.
+            let per = 1 - e.more();
+            let through = e.r.coin();
+            set(e, 9, 0, through, [3, per, 0]);
+            let active = e.t - e.r.range(1, 999_999);
+            e.s.orders.items.last_mut().expect("the order").active = active;
         });
         self.add("queue-per-1", 7, |e| {
             let per = 1 - e.more();
             let through = e.r.coin();
-            set(e, 9, 0, through, [3, per, 0, 4]);
+            set(e, 9, 0, through, [3, per, 4]);
         });
         self.add("queue-per-0-no-cross", 0, |e| {
             let place = e.resting(45);
@@ -1408,21 +1499,15 @@ impl Edges {
             };
             e.book(place);
         });
-        self.add("queue-min", 0, |e| {
-            let ms = e.r.range(1, 9);
-            let through = e.r.coin();
-            set(e, 9, 0, through, [3, 1, ms + e.more(), ms]);
-            ahead(e, 1);
-        });
         self.add("queue-ms", 0, |e| {
             // A nanosecond less than a whole millisecond.
-            set(e, 9, 0, true, [1, 1, 0, 4]);
+            set(e, 9, 0, true, [1, 1, 4]);
             let active = e.t - 3_000_000 + e.more();
             e.s.orders.items.last_mut().expect("the order").active = active;
         });
         self.add("queue-ahead", 0, |e| {
             let (rate, per, ms) = (e.r.range(1, 5), e.r.range(1, 3), e.r.range(3, 9));
-            set(e, 20, 0, false, [rate, per, 0, ms]);
+            set(e, 20, 0, false, [rate, per, ms]);
             let cleared = rate * ms / per;
             let lots = cleared - 1 + e.more();
             ahead(e, lots);
@@ -1430,19 +1515,19 @@ impl Edges {
         self.add("queue-through", 0, |e| {
             let (rate, ms) = (e.r.range(1, 5), e.r.range(1, 9));
             let through = e.hit;
-            set(e, 20, 0, through, [rate, 1, 0, ms]);
+            set(e, 20, 0, through, [rate, 1, ms]);
             let lots = e.r.range(1, 9);
             ahead(e, lots);
         });
         self.add("queue-all", 0, |e| {
             let (rate, ms) = (e.r.range(1, 5), e.r.range(2, 9));
             let filled = e.r.below(rate * ms);
-            set(e, rate * ms + e.more(), filled, true, [rate, 1, 0, ms]);
+            set(e, rate * ms + e.more(), filled, true, [rate, 1, ms]);
         });
         self.add("queue-filled", 0, |e| {
             let (rate, ms) = (e.r.range(1, 5), e.r.range(2, 9));
             let filled = rate * ms - 1 + e.more() * e.r.range(1, 3);
-            set(e, rate * ms + 9, filled, true, [rate, 1, 0, ms]);
+            set(e, rate * ms + 9, filled, true, [rate, 1, ms]);
         });
         self.add("queue-wide", 0, |e| {
             // Products past 64 bits.
@@ -1451,12 +1536,12 @@ impl Edges {
             let ms = e.r.range(2, 4000);
             let through = e.r.coin();
             let qty = ms - 1 + e.r.below(3);
-            set(e, qty, 0, through, [rate, per, 0, ms]);
+            set(e, qty, 0, through, [rate, per, ms]);
         });
         self.add("queue-wide-ahead", 0, |e| {
             let rate = HALF + e.r.below(2);
             let ms = e.r.range(2, 9);
-            set(e, 9, 0, false, [rate, 1, 0, ms]);
+            set(e, 9, 0, false, [rate, 1, ms]);
             // The largest quantity ahead takes less than clears.
             ahead(e, MAX);
             if !e.hit {
@@ -1472,7 +1557,7 @@ impl Edges {
         self.add("queue-days", 0, |e| {
             // Partial fills over several rows.
             let rate = e.r.range(1, 3);
-            set(e, 30, 0, e.hit, [rate, 1, 0, 1]);
+            set(e, 30, 0, e.hit, [rate, 1, 1]);
             e.config.observation = 0;
             e.config.ack = 0;
             e.calls = vec![0, 1, 0, 1, 0];

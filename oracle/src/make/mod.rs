@@ -2,7 +2,7 @@
 
 use std::io::{self, Write};
 
-use crate::case::{Case, Config, put_case};
+use crate::case::{Case, Config, Fill, put_case};
 use chance::Chance;
 
 mod chance;
@@ -19,8 +19,8 @@ fn log(r: &mut Chance, once_in: u64) -> Option<u64> {
     })
 }
 
-/// The case, one in four with a ceiling drawn, which may be 0. It is drawn last:
-/// the rest of the case is what it was before there were any.
+/// The case, one in four with a ceiling drawn, which may be 0. It is drawn behind
+/// the rest of the case, which is what it was before there were any.
 fn with_ceiling(r: &mut Chance, mut case: Case) -> Case {
     fn drawn(r: &mut Chance, config: &Config) -> u64 {
         let ns = r.below(6).saturating_mul(config.quantum);
@@ -34,6 +34,18 @@ fn with_ceiling(r: &mut Chance, mut case: Case) -> Case {
     }
     if r.once_in(4) {
         case.config.ceiling = drawn(r, &case.config);
+    }
+    case
+}
+
+/// The case, in five cases of six without the minimum queue time that it has:
+/// `advance` refuses one. It is drawn behind the ceiling: the rest of the case is
+/// what it was when a minimum was a rule.
+fn few_minima(r: &mut Chance, mut case: Case) -> Case {
+    if let Fill::Queue { min: min @ 1.., .. } = &mut case.config.fill
+        && !r.once_in(6)
+    {
+        *min = 0;
     }
     case
 }
@@ -54,12 +66,14 @@ pub fn cases(
             "replay" => {
                 let r = &mut Chance::new(seed, index);
                 let case = replay::case(r, format!("replay.{seed}.{index}"));
-                with_ceiling(r, case)
+                let case = with_ceiling(r, case);
+                few_minima(r, case)
             }
             "wild" => {
                 let r = &mut Chance::new(!seed, index);
                 let case = wild::case(r, format!("wild.{seed}.{index}"));
-                with_ceiling(r, case)
+                let case = with_ceiling(r, case);
+                few_minima(r, case)
             }
             "edge" => edges.case(seed, index),
             _ => return Ok(false),

@@ -35,10 +35,14 @@ filled_after sum log events last = filled_from sum (records_of log events last) 
 unfoldable pub last_line : ℤ → ℕ → ℕ → ℕ → List ℕ
 last_line p buy sell filled = all (bytes "position " ∷ signed p ∷ bytes " live" ∷ field buy ∷ field sell ∷ bytes " filled" ∷ field filled ∷ newline ∷ [])
 
+-- a word and the number of a line
+abbrev pub numbered : List ℕ → ℕ → List ℕ
+numbered name n = all (name ∷ field n ∷ newline ∷ [])
+
 -- "`bad N`"
 unfoldable pub bad_line : ℕ → List ℕ
-bad_line n = all (bytes "bad" ∷ field n ∷ newline ∷ [])
+bad_line n = numbered (bytes "bad") n
 
 -- N11, "`retired N` with the line number"
 unfoldable pub retired_line : ℕ → List ℕ
-retired_line n = all (bytes "retired" ∷ field n ∷ newline ∷ [])
+retired_line n = numbered (bytes "retired") n

@@ -4,7 +4,7 @@
 ghost use Rattle.std.specs.Prelude.{◌≡◌, ◌+◌, ◌-◌, ◌/◌, ◌^◌, min, fold, length, map, take};
 ghost use Rattle.std.specs.Simd.{first_chunks};
 ghost use Rattle.write.specs.Write.{written};
-ghost use Rattle.lines.specs.Print.{records_of, call_text, last_line, bad_line, retired_line, filled_lots, filled_after};
+ghost use Rattle.lines.specs.Print.{records_of, call_text, last_line, numbered, bad_line, retired_line, filled_lots, filled_after};
 
 use logline::{Record, WORDS, put_event};
 use numbers::position::Position;
@@ -97,22 +97,28 @@ pub fn put_last(text: &mut Writer, position: Position, buy: u64, sell: u64, fill
     text.put_byte(b'\n');
 }
 
-// bad N
-#[tactic(auto, using(logline::proofs::LineLaws::pieces), unfolding(crate::specs::Print::bad_line))]
-pub fn put_bad(text: &mut Writer, n: u64)
-    ensures { text.new ≡ written text.old (bad_line n) }
+// A word and the number of a line.
+#[tactic(auto, using(logline::proofs::LineLaws::pieces))]
+fn put_numbered(text: &mut Writer, name: &[u8], n: u64)
+    ensures { text.new ≡ written text.old (numbered name.now n) }
 {
-    text.put_bytes(b"bad");
+    text.put_bytes(name);
     text.put_field(n);
     text.put_byte(b'\n');
 }
 
+// bad N
+#[tactic(auto, unfolding(crate::specs::Print::bad_line))]
+pub fn put_bad(text: &mut Writer, n: u64)
+    ensures { text.new ≡ written text.old (bad_line n) }
+{
+    put_numbered(text, b"bad", n);
+}
+
 // retired N
-#[tactic(auto, using(logline::proofs::LineLaws::pieces), unfolding(crate::specs::Print::retired_line))]
+#[tactic(auto, unfolding(crate::specs::Print::retired_line))]
 pub fn put_retired(text: &mut Writer, n: u64)
     ensures { text.new ≡ written text.old (retired_line n) }
 {
-    text.put_bytes(b"retired");
-    text.put_field(n);
-    text.put_byte(b'\n');
+    put_numbered(text, b"retired", n);
 }

@@ -1,6 +1,5 @@
 -- What is so of the start of every run text: what holds before the first line, and is kept by each, holds of all that was read. Assumes nothing.
 use Rattle.std.specs.Prelude.{Option, None, IfSome}
-use Rattle.std.proofs.lemmas.Option.{MatchOption-at_some}
 use Prim.Native.Nat.{ℕ, zero, suc, ◌+◌}
 use mathlib.Core.List.{List, [], ◌∷◌, map}
 use mathlib.Core.Path.{◌≡◌, refl}
@@ -26,10 +25,11 @@ use Rattle.rules.specs.Conservation.{of_side}
 use Rattle.text.specs.Fields.{fields}
 use Rattle.runline.specs.Lines.{line_of}
 use Rattle.runtake.specs.Take.{Reading, blank_reading, take_config, take_fill, reserved, put_in, queued, take_order, in_flight, marked_kind, marked, marked_in, take_cancel, take_row, take_line, take_text}
-use Rattle.runtext.specs.Read.{start_state, script_of, Read, unless_retired, closing, read_parts, read_lines, read_text}
+use Rattle.runtext.specs.Read.{start_state, script_of, Read, unless_retired, read_text}
 use Rattle.runline.specs.declared.Line.{Line}
 use Rattle.runline.specs.declared.Line.TheVariants as line
 use Rattle.runtake.specs.declared.Lots.{Lots}
+use Rattle.runtext.proofs.EveryText.{text_case}
 use Rattle.runtext.proofs.Unfilled.{Unfilled, line_unfilled}
 
 -- ---- marks: what goes by a message's kind, and not by the mark of the order that it carries, adds up to as much
@@ -120,24 +120,8 @@ module _ (C : Msgs → Lots → AgentAccount → Type 0) (S : KernelState → Ty
   unfolding script_of
   script_starts r h = starts r h
 
-  -- at the end of the text
-  closing_starts : (n : ℕ) (r : Reading) (l : List ℕ) → Of C r → Starts (closing n r l)
-  unfolding closing unless_retired
-  closing_starts n r l h =
-      let s = script_starts r h in
-      pick_case Starts _ _ _ (λ _. pick_case Starts _ _ _ (λ _. s) (λ _. pick_case Starts _ _ _ (λ _. s) (λ _. s))) (λ _. s)
-
-  -- line by line, up to the first bad one
-  parts-start : (n : ℕ) (r : Reading) (ls : List (List ℕ)) → Of C r → Starts (read_parts n r ls)
-  unfolding read_parts
-  parts-start n r [] h = closing_starts n r [] h
-  parts-start n r (l ∷ ls) h =
-      pick_case Starts _ _ _ (λ _. closing_starts n r l h)
-      (λ _. some_case Starts (take_text n l r) _ _
-      (λ t e. parts-start (n + 1) t ls (MatchOption-at_some _ (Of C) t e (text_keeps n l r h)))
-      (λ _. script_starts r h))
-
   -- every text, bad ones included: a bad line changes nothing
   pub text_starts : (text words : List ℕ) → S (read_text text words).script.state
-  unfolding read_text read_lines
-  text_starts text words = pick_case Starts _ _ _ (λ _. parts-start 0 (blank_reading words) _ (blank words)) (λ _. script_starts (blank_reading words) (blank words))
+  unfolding unless_retired
+  text_starts text words =
+      text_case (Of C) Starts text_keeps (λ f r h. script_starts r h) (λ r h. pick_case Starts _ _ _ (λ _. script_starts r h) (λ _. script_starts r h)) text words (blank words)

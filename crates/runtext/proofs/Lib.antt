@@ -1,5 +1,6 @@
 pub mod ReadLaws
 pub mod Unfilled
+pub mod EveryText
 pub mod EachLine
 pub mod Retired
 pub mod Start

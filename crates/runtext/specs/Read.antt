@@ -1,4 +1,4 @@
--- A run file: its lines, its first bad line, and the state at the start.
+-- A run file: its lines, why it is not run, and the state at the start.
 use Rattle.std.specs.Prelude.{ℕ, ◌+◌, Bool, true, false, List, [], ◌∷◌, ltb, leb, eqb, pos, length, Option, Some, None, Result, Ok, Err}
 use Rattle.numbers.specs.Choice.{pick, on_some}
 use Rattle.book.specs.Modes.{has_minimum}

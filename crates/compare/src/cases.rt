@@ -1,6 +1,6 @@
 // A case: a name, what is given to its calls, a state and the calls.
 use super::entries::Entry;
-use super::reader::{Fields, Lines, ReadError};
+use super::reader::{Lines, ReadError};
 use super::states::read_state;
 use book::config::{Config, FillMode, ROW_WORDS};
 use state::KernelState;
@@ -24,12 +24,12 @@ pub enum Call {
 }
 
 impl Entry for Call {
-    fn parse(fields: &mut Fields<'_>) -> Result<Self, ReadError> {
-        match fields.number::<u64>()? {
+    fn parse<R: BufRead>(lines: &mut Lines<R>) -> Result<Self, ReadError> {
+        match lines.number()? {
             0 => Ok(Call::Advance),
             1 => Ok(Call::Pass),
             2 => Ok(Call::Turns),
-            _ => Err(fields.bad()),
+            _ => Err(lines.bad()),
         }
     }
 
@@ -55,12 +55,22 @@ pub struct Case {
 }
 
 // A name is not empty and has no space. It may be any bytes else.
-fn name_in(line: &[u8]) -> Option<&[u8]> {
-    let name = line.strip_prefix(b"case ")?;
-    if name.is_empty() || name.len() > MOST_NAME || name.contains(&b' ') {
-        return None;
+fn read_name<R: BufRead>(lines: &mut Lines<R>, alloc: Global) -> Result<Vec<u8>, ReadError> {
+    lines.name("case ")?;
+    let mut name = Vec::new(alloc);
+    for _ in 0..MOST_NAME {
+        match lines.peek() {
+            None | Some(b' ') => return Err(lines.bad()),
+            Some(b'\n') => break,
+            Some(byte) => name.push(byte)?,
+        }
+        lines.step();
     }
-    Some(name)
+    if name.is_empty() {
+        return Err(lines.bad());
+    }
+    lines.end()?;
+    Ok(name)
 }
 
 // The mode and the three numbers of the queue's, or zeros.
@@ -94,14 +104,15 @@ fn read_rows<R: BufRead>(lines: &mut Lines<R>, alloc: Global) -> Result<Vec<u64>
     let words: u64 = lines.entry("rows")?;
     let mut rows = Vec::new(alloc);
     for at in (0..words).step_by(ROW_WORDS) {
-        let mut fields = lines.fields("row")?;
-        for _ in (at..words).take(ROW_WORDS) {
-            if rows.len() == MOST_ROW_WORDS {
-                return Err(fields.bad());
-            }
-            rows.push(fields.number()?)?;
+        let count = (words - at).min(ROW_WORDS as u64) as usize;
+        if rows.len().saturating_add(count) > MOST_ROW_WORDS {
+            return Err(lines.bad());
         }
-        fields.end()?;
+        lines.name("row")?;
+        for _ in 0..count {
+            rows.push(lines.number()?)?;
+        }
+        lines.end()?;
     }
     Ok(rows)
 }
@@ -110,11 +121,10 @@ fn read_calls<R: BufRead>(lines: &mut Lines<R>, alloc: Global) -> Result<Vec<Cal
     let count: u64 = lines.entry("calls")?;
     let mut calls = Vec::new(alloc);
     for _ in 0..count {
-        let call = lines.entry("call")?;
         if calls.len() == MOST_CALLS {
             return Err(lines.bad());
         }
-        calls.push(call)?;
+        calls.push(lines.entry("call")?)?;
     }
     Ok(calls)
 }
@@ -124,21 +134,18 @@ pub fn read_case<R: BufRead>(
     lines: &mut Lines<R>,
     alloc: Global,
 ) -> Result<Option<Case>, ReadError> {
-    let Some(line) = lines.next_line()? else {
+    if lines.peek().is_none() {
         return Ok(None);
-    };
-    let Some(name) = name_in(line) else {
-        return Err(lines.bad());
-    };
-    let name = name.to_vec(alloc)?;
+    }
     let case = Case {
-        name,
+        name: read_name(lines, alloc)?,
         config: read_config(lines)?,
         log_words: lines.entry("log")?,
         rows: read_rows(lines, alloc)?,
         state: read_state(lines)?,
         calls: read_calls(lines, alloc)?,
     };
-    lines.fields("end")?.end()?;
+    lines.name("end")?;
+    lines.end()?;
     Ok(Some(case))
 }

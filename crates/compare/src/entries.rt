@@ -1,9 +1,9 @@
 // What a line holds behind its name: numbers, read and written in the same order.
-use super::reader::{Fields, ReadError};
-use std::io::{self, Write};
+use super::reader::{Lines, ReadError};
+use std::io::{self, BufRead, Write};
 
 pub trait Entry: Sized + Drop {
-    fn parse(fields: &mut Fields<'_>) -> Result<Self, ReadError>;
+    fn parse<R: BufRead>(lines: &mut Lines<R>) -> Result<Self, ReadError>;
 
     // Each number behind a space.
     fn write<W: Write>(&self, out: &mut W) -> io::Result<()>;
@@ -17,8 +17,8 @@ pub fn put<W: Write, T: Entry>(out: &mut W, name: &str, entry: &T) -> io::Result
 }
 
 impl Entry for u64 {
-    fn parse(fields: &mut Fields<'_>) -> Result<Self, ReadError> {
-        fields.number()
+    fn parse<R: BufRead>(lines: &mut Lines<R>) -> Result<Self, ReadError> {
+        lines.number()
     }
 
     fn write<W: Write>(&self, out: &mut W) -> io::Result<()> {
@@ -27,8 +27,8 @@ impl Entry for u64 {
 }
 
 impl Entry for i64 {
-    fn parse(fields: &mut Fields<'_>) -> Result<Self, ReadError> {
-        fields.number()
+    fn parse<R: BufRead>(lines: &mut Lines<R>) -> Result<Self, ReadError> {
+        lines.signed()
     }
 
     fn write<W: Write>(&self, out: &mut W) -> io::Result<()> {
@@ -38,11 +38,11 @@ impl Entry for i64 {
 
 // A yes is 1, a no 0.
 impl Entry for bool {
-    fn parse(fields: &mut Fields<'_>) -> Result<Self, ReadError> {
-        match fields.number::<u64>()? {
+    fn parse<R: BufRead>(lines: &mut Lines<R>) -> Result<Self, ReadError> {
+        match lines.number()? {
             0 => Ok(false),
             1 => Ok(true),
-            _ => Err(fields.bad()),
+            _ => Err(lines.bad()),
         }
     }
 
@@ -52,10 +52,10 @@ impl Entry for bool {
 }
 
 impl<const N: usize> Entry for [u64; N] {
-    fn parse(fields: &mut Fields<'_>) -> Result<Self, ReadError> {
+    fn parse<R: BufRead>(lines: &mut Lines<R>) -> Result<Self, ReadError> {
         let mut numbers = [0; N];
         for number in numbers.iter_mut() {
-            *number = fields.number()?;
+            *number = lines.number()?;
         }
         Ok(numbers)
     }
@@ -83,11 +83,11 @@ impl<const N: usize> Optional for [u64; N] {
 
 // 1 and what there is, or 0 and as many zeros.
 impl<T: Optional> Entry for Option<T> {
-    fn parse(fields: &mut Fields<'_>) -> Result<Self, ReadError> {
-        if fields.take()? {
-            return Ok(Some(fields.take()?));
+    fn parse<R: BufRead>(lines: &mut Lines<R>) -> Result<Self, ReadError> {
+        if lines.take()? {
+            return Ok(Some(lines.take()?));
         }
-        fields.unused(T::WIDTH)?;
+        lines.unused(T::WIDTH)?;
         Ok(None)
     }
 

@@ -1,8 +1,7 @@
-// The reader: lines, each a name and behind it fields, parted by one space.
+// The reader: the text byte by byte, from the block that stands ready. A line is not gathered first, so that a line of any length takes no memory, and nothing is waited for behind a bad byte.
 use super::entries::Entry;
-use std::alloc::{AllocError, AllocFailed, Global};
+use std::alloc::{AllocError, AllocFailed};
 use std::io::{self, BufRead};
-use std::str::{self, FromStr, Split};
 
 // Why a text is read no further: the line of this number is not as it should be, or there is no memory for it. What is printed of it is that number.
 #[derive(Debug, Drop)]
@@ -29,111 +28,117 @@ impl<T: Drop> From<AllocFailed<T>> for ReadError {
     }
 }
 
-// The text, the line that was read last and its number.
+// Lines, each a name and behind it fields, each behind one space. The text, and the number of the line in which it stands.
 #[derive(Drop)]
 pub struct Lines<R> {
     from: R,
-    line: Vec<u8>,
     number: u64,
 }
 
 impl<R: BufRead> Lines<R> {
-    pub fn new(alloc: Global, from: R) -> Self {
-        Lines {
-            from,
-            line: Vec::new(alloc),
-            number: 0,
-        }
+    pub fn new(from: R) -> Self {
+        Lines { from, number: 1 }
     }
 
-    // The next line without its newline, or none at the end of the text.
-    pub fn next_line(&mut self) -> Result<Option<&[u8]>, ReadError> {
-        self.number = self.number.wrapping_add(1);
-        self.line.clear();
-        // a text that cannot be read ends there
-        let _ = self.from.read_until(b'\n', &mut self.line);
-        match self.line.pop() {
-            None => Ok(None),
-            Some(b'\n') => Ok(Some(self.line.as_slice())),
-            Some(_) => Err(self.bad()),
-        }
-    }
-
-    // The error at the line that was read last.
+    // The error at the line in which the text stands.
     pub fn bad(&self) -> ReadError {
         ReadError::BadLine(self.number)
     }
 
-    // The fields behind a name in the next line.
-    pub fn fields(&mut self, name: &str) -> Result<Fields<'_>, ReadError> {
-        if self.next_line()?.is_none() {
+    // The next byte, or none at the end of the text. A text that cannot be read ends there.
+    pub fn peek(&mut self) -> Option<u8> {
+        match self.from.fill_buf() {
+            Ok(block) => block.first().copied(),
+            Err(_) => None,
+        }
+    }
+
+    // Past the byte that was seen.
+    pub fn step(&mut self) {
+        self.from.consume(1);
+    }
+
+    // The byte that has to come.
+    fn expect(&mut self, byte: u8) -> Result<(), ReadError> {
+        if self.peek() != Some(byte) {
             return Err(self.bad());
         }
-        // a field is ASCII
-        let text = str::from_utf8(&self.line).or(Err(self.bad()))?;
-        let mut fields = Fields {
-            rest: text.split(' '),
-            line: self.number,
-        };
-        if fields.next()? != name {
-            return Err(fields.bad());
+        self.step();
+        Ok(())
+    }
+
+    // The name that has to come.
+    pub fn name(&mut self, name: &str) -> Result<(), ReadError> {
+        for byte in name.as_bytes() {
+            self.expect(*byte)?;
         }
-        Ok(fields)
-    }
-
-    // All that stands behind a name in the next line.
-    pub fn entry<T: Entry>(&mut self, name: &str) -> Result<T, ReadError> {
-        let mut fields = self.fields(name)?;
-        let entry = T::parse(&mut fields)?;
-        fields.end()?;
-        Ok(entry)
-    }
-}
-
-// The fields of a line that are left, and the line's number.
-#[derive(Drop)]
-pub struct Fields<'a> {
-    rest: Split<'a, char>,
-    line: u64,
-}
-
-impl<'a> Fields<'a> {
-    pub fn bad(&self) -> ReadError {
-        ReadError::BadLine(self.line)
-    }
-
-    fn next(&mut self) -> Result<&'a str, ReadError> {
-        self.rest.next().ok_or(self.bad())
+        Ok(())
     }
 
     // The line has no more fields.
     pub fn end(&mut self) -> Result<(), ReadError> {
-        match self.rest.next() {
-            None => Ok(()),
-            Some(_) => Err(self.bad()),
-        }
+        self.expect(b'\n')?;
+        self.number = self.number.wrapping_add(1);
+        Ok(())
     }
 
-    // A number in decimal. It has no plus sign, which `parse` would take.
-    pub fn number<T: FromStr + Drop>(&mut self) -> Result<T, ReadError>
-    where
-        T::Err: Drop,
-    {
-        let field = self.next()?;
-        if field.starts_with('+') {
-            return Err(self.bad());
-        }
-        field.parse().or(Err(self.bad()))
+    // The next line: a name, and all that stands behind it.
+    pub fn entry<T: Entry>(&mut self, name: &str) -> Result<T, ReadError> {
+        self.name(name)?;
+        let entry = self.take()?;
+        self.end()?;
+        Ok(entry)
     }
 
     pub fn take<T: Entry>(&mut self) -> Result<T, ReadError> {
         T::parse(self)
     }
 
+    // The next byte as a digit, if it is one.
+    fn digit(&mut self) -> Option<u64> {
+        let digit = char::from(self.peek()?).to_digit(10)?;
+        Some(u64::from(digit))
+    }
+
+    // A number's digits: one or more, and at most 64 bits of value. A proved loop has to end, so the digits are counted, to a number that no text reaches.
+    fn digits(&mut self) -> Result<u64, ReadError> {
+        let mut value = self.digit().ok_or(self.bad())?;
+        self.step();
+        for _ in 0..u64::MAX {
+            let Some(digit) = self.digit() else {
+                break;
+            };
+            value = value
+                .checked_mul(10)
+                .and_then(|tens| tens.checked_add(digit))
+                .ok_or(self.bad())?;
+            self.step();
+        }
+        Ok(value)
+    }
+
+    // A field: a number in decimal.
+    pub fn number(&mut self) -> Result<u64, ReadError> {
+        self.expect(b' ')?;
+        self.digits()
+    }
+
+    // A field: a number that may have a minus sign.
+    pub fn signed(&mut self) -> Result<i64, ReadError> {
+        self.expect(b' ')?;
+        let number = if self.peek() == Some(b'-') {
+            self.step();
+            0i64.checked_sub_unsigned(self.digits()?)
+        } else {
+            0i64.checked_add_unsigned(self.digits()?)
+        };
+        number.ok_or(self.bad())
+    }
+
     // Fields that are not used are 0.
     pub fn unused(&mut self, count: usize) -> Result<(), ReadError> {
         for _ in 0..count {
-            if self.number::<u64>()? != 0 {
+            if self.number()? != 0 {
                 return Err(self.bad());
             }
         }

@@ -1,17 +1,17 @@
 // The kernel's enums and records as entries. An enum is read where its line is, which is bad where no case has the number; the numbers are the case text's, and no other reader has a use for a `TryFrom`.
 use super::entries::{Entry, Optional, write_unused};
-use super::reader::{Fields, ReadError};
+use super::reader::{Lines, ReadError};
 use book::{
     Delivery, ExecKind, FillRec, MsgKind, ObsEntry, OpenOrder, OrderState, Origin, ReportRec, Side,
     VenueMsg, VenueOrder,
 };
 use numbers::position::Position;
 use state::{HaltReason, Phase, Status};
-use std::io::{self, Write};
+use std::io::{self, BufRead, Write};
 
 impl Entry for Position {
-    fn parse(fields: &mut Fields<'_>) -> Result<Self, ReadError> {
-        let lots = fields.take()?;
+    fn parse<R: BufRead>(lines: &mut Lines<R>) -> Result<Self, ReadError> {
+        let lots = lines.take()?;
         Ok(Position { lots })
     }
 
@@ -23,11 +23,11 @@ impl Entry for Position {
 // The enums by their numbers.
 
 impl Entry for Side {
-    fn parse(fields: &mut Fields<'_>) -> Result<Self, ReadError> {
-        match fields.number::<u64>()? {
+    fn parse<R: BufRead>(lines: &mut Lines<R>) -> Result<Self, ReadError> {
+        match lines.number()? {
             0 => Ok(Side::Buy),
             1 => Ok(Side::Sell),
-            _ => Err(fields.bad()),
+            _ => Err(lines.bad()),
         }
     }
 
@@ -37,11 +37,11 @@ impl Entry for Side {
 }
 
 impl Entry for Origin {
-    fn parse(fields: &mut Fields<'_>) -> Result<Self, ReadError> {
-        match fields.number::<u64>()? {
+    fn parse<R: BufRead>(lines: &mut Lines<R>) -> Result<Self, ReadError> {
+        match lines.number()? {
             0 => Ok(Origin::Local),
             1 => Ok(Origin::Venue),
-            _ => Err(fields.bad()),
+            _ => Err(lines.bad()),
         }
     }
 
@@ -51,14 +51,14 @@ impl Entry for Origin {
 }
 
 impl Entry for OrderState {
-    fn parse(fields: &mut Fields<'_>) -> Result<Self, ReadError> {
-        match fields.number::<u64>()? {
+    fn parse<R: BufRead>(lines: &mut Lines<R>) -> Result<Self, ReadError> {
+        match lines.number()? {
             1 => Ok(OrderState::Submitted),
             2 => Ok(OrderState::Active),
             3 => Ok(OrderState::Filled),
             4 => Ok(OrderState::Canceled),
             5 => Ok(OrderState::Rejected),
-            _ => Err(fields.bad()),
+            _ => Err(lines.bad()),
         }
     }
 
@@ -75,15 +75,15 @@ impl Entry for OrderState {
 }
 
 impl Entry for ExecKind {
-    fn parse(fields: &mut Fields<'_>) -> Result<Self, ReadError> {
-        match fields.number::<u64>()? {
+    fn parse<R: BufRead>(lines: &mut Lines<R>) -> Result<Self, ReadError> {
+        match lines.number()? {
             0 => Ok(ExecKind::Accepted),
             1 => Ok(ExecKind::Rejected),
             2 => Ok(ExecKind::Canceled),
             3 => Ok(ExecKind::CancelRejected),
             4 => Ok(ExecKind::PartialFill),
             5 => Ok(ExecKind::Fill),
-            _ => Err(fields.bad()),
+            _ => Err(lines.bad()),
         }
     }
 
@@ -94,13 +94,13 @@ impl Entry for ExecKind {
 
 // No phase has the number 2.
 impl Entry for Phase {
-    fn parse(fields: &mut Fields<'_>) -> Result<Self, ReadError> {
-        match fields.number::<u64>()? {
+    fn parse<R: BufRead>(lines: &mut Lines<R>) -> Result<Self, ReadError> {
+        match lines.number()? {
             1 => Ok(Phase::BeforeMatch),
             3 => Ok(Phase::ObsQueued),
             4 => Ok(Phase::AwaitDecision),
             5 => Ok(Phase::Terminal),
-            _ => Err(fields.bad()),
+            _ => Err(lines.bad()),
         }
     }
 
@@ -116,12 +116,12 @@ impl Entry for Phase {
 }
 
 impl Entry for HaltReason {
-    fn parse(fields: &mut Fields<'_>) -> Result<Self, ReadError> {
-        match fields.number::<u64>()? {
+    fn parse<R: BufRead>(lines: &mut Lines<R>) -> Result<Self, ReadError> {
+        match lines.number()? {
             5 => Ok(HaltReason::LedgerOverflow),
             6 => Ok(HaltReason::TimeOverflow),
             7 => Ok(HaltReason::CounterOverflow),
-            _ => Err(fields.bad()),
+            _ => Err(lines.bad()),
         }
     }
 
@@ -132,15 +132,15 @@ impl Entry for HaltReason {
 
 // The status and, if halted, the halt's number.
 impl Entry for Status {
-    fn parse(fields: &mut Fields<'_>) -> Result<Self, ReadError> {
-        let status = match fields.number::<u64>()? {
+    fn parse<R: BufRead>(lines: &mut Lines<R>) -> Result<Self, ReadError> {
+        let status = match lines.number()? {
             0 => Status::Running,
             1 => Status::EndOfData,
             2 => Status::Truncated,
-            3 => return Ok(Status::Halted(fields.take()?)),
-            _ => return Err(fields.bad()),
+            3 => return Ok(Status::Halted(lines.take()?)),
+            _ => return Err(lines.bad()),
         };
-        fields.unused(1)?;
+        lines.unused(1)?;
         Ok(status)
     }
 
@@ -158,16 +158,16 @@ impl Entry for Status {
 }
 
 impl Entry for VenueOrder {
-    fn parse(fields: &mut Fields<'_>) -> Result<Self, ReadError> {
+    fn parse<R: BufRead>(lines: &mut Lines<R>) -> Result<Self, ReadError> {
         Ok(VenueOrder {
-            id: fields.take()?,
-            side: fields.take()?,
-            price: fields.take()?,
-            qty: fields.take()?,
-            filled: fields.take()?,
-            state: fields.take()?,
-            active_after_ns: fields.take()?,
-            cancel_inflight: fields.take()?,
+            id: lines.take()?,
+            side: lines.take()?,
+            price: lines.take()?,
+            qty: lines.take()?,
+            filled: lines.take()?,
+            state: lines.take()?,
+            active_after_ns: lines.take()?,
+            cancel_inflight: lines.take()?,
         })
     }
 
@@ -188,19 +188,19 @@ const UNUSED_BEHIND_ID: usize = 8;
 
 // The kind's number, then the order and its life, or an id alone.
 impl Entry for MsgKind {
-    fn parse(fields: &mut Fields<'_>) -> Result<Self, ReadError> {
-        let kind = match fields.number::<u64>()? {
+    fn parse<R: BufRead>(lines: &mut Lines<R>) -> Result<Self, ReadError> {
+        let kind = match lines.number()? {
             0 => {
                 return Ok(MsgKind::Activate {
-                    order: fields.take()?,
-                    life: fields.take()?,
+                    order: lines.take()?,
+                    life: lines.take()?,
                 });
             }
-            1 => MsgKind::Cancel { id: fields.take()? },
-            2 => MsgKind::Expire { id: fields.take()? },
-            _ => return Err(fields.bad()),
+            1 => MsgKind::Cancel { id: lines.take()? },
+            2 => MsgKind::Expire { id: lines.take()? },
+            _ => return Err(lines.bad()),
         };
-        fields.unused(UNUSED_BEHIND_ID)?;
+        lines.unused(UNUSED_BEHIND_ID)?;
         Ok(kind)
     }
 
@@ -224,11 +224,11 @@ impl Entry for MsgKind {
 }
 
 impl Entry for VenueMsg {
-    fn parse(fields: &mut Fields<'_>) -> Result<Self, ReadError> {
+    fn parse<R: BufRead>(lines: &mut Lines<R>) -> Result<Self, ReadError> {
         Ok(VenueMsg {
-            eff_ns: fields.take()?,
-            seq: fields.take()?,
-            kind: fields.take()?,
+            eff_ns: lines.take()?,
+            seq: lines.take()?,
+            kind: lines.take()?,
         })
     }
 
@@ -240,19 +240,19 @@ impl Entry for VenueMsg {
 }
 
 impl Entry for ReportRec {
-    fn parse(fields: &mut Fields<'_>) -> Result<Self, ReadError> {
+    fn parse<R: BufRead>(lines: &mut Lines<R>) -> Result<Self, ReadError> {
         Ok(ReportRec {
-            ts_ns: fields.take()?,
-            seq: fields.take()?,
-            order_id: fields.take()?,
-            side: fields.take()?,
-            kind: fields.take()?,
-            origin: fields.take()?,
-            cancel_pending: fields.take()?,
-            price: fields.take()?,
-            qty: fields.take()?,
-            last: fields.take()?,
-            cum: fields.take()?,
+            ts_ns: lines.take()?,
+            seq: lines.take()?,
+            order_id: lines.take()?,
+            side: lines.take()?,
+            kind: lines.take()?,
+            origin: lines.take()?,
+            cancel_pending: lines.take()?,
+            price: lines.take()?,
+            qty: lines.take()?,
+            last: lines.take()?,
+            cum: lines.take()?,
         })
     }
 
@@ -272,14 +272,14 @@ impl Entry for ReportRec {
 }
 
 impl Entry for FillRec {
-    fn parse(fields: &mut Fields<'_>) -> Result<Self, ReadError> {
+    fn parse<R: BufRead>(lines: &mut Lines<R>) -> Result<Self, ReadError> {
         Ok(FillRec {
-            ts_ns: fields.take()?,
-            exec_id: fields.take()?,
-            order_id: fields.take()?,
-            side: fields.take()?,
-            price: fields.take()?,
-            qty: fields.take()?,
+            ts_ns: lines.take()?,
+            exec_id: lines.take()?,
+            order_id: lines.take()?,
+            side: lines.take()?,
+            price: lines.take()?,
+            qty: lines.take()?,
         })
     }
 
@@ -298,11 +298,11 @@ impl Optional for FillRec {
 }
 
 impl Entry for Delivery {
-    fn parse(fields: &mut Fields<'_>) -> Result<Self, ReadError> {
+    fn parse<R: BufRead>(lines: &mut Lines<R>) -> Result<Self, ReadError> {
         Ok(Delivery {
-            at_ns: fields.take()?,
-            report: fields.take()?,
-            fill: fields.take()?,
+            at_ns: lines.take()?,
+            report: lines.take()?,
+            fill: lines.take()?,
         })
     }
 
@@ -314,10 +314,10 @@ impl Entry for Delivery {
 }
 
 impl Entry for ObsEntry {
-    fn parse(fields: &mut Fields<'_>) -> Result<Self, ReadError> {
+    fn parse<R: BufRead>(lines: &mut Lines<R>) -> Result<Self, ReadError> {
         Ok(ObsEntry {
-            ready_ns: fields.take()?,
-            row: fields.take()?,
+            ready_ns: lines.take()?,
+            row: lines.take()?,
         })
     }
 
@@ -328,10 +328,10 @@ impl Entry for ObsEntry {
 }
 
 impl Entry for OpenOrder {
-    fn parse(fields: &mut Fields<'_>) -> Result<Self, ReadError> {
+    fn parse<R: BufRead>(lines: &mut Lines<R>) -> Result<Self, ReadError> {
         Ok(OpenOrder {
-            order_id: fields.take()?,
-            awaiting_cancel_outcome: fields.take()?,
+            order_id: lines.take()?,
+            awaiting_cancel_outcome: lines.take()?,
         })
     }
 

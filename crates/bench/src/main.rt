@@ -11,7 +11,8 @@ use day::{Day, Kind};
 use kernel::pass;
 use reports::log::WORDS;
 use state::{KernelState, Phase};
-use std::{env, io};
+use std::rt::Env;
+use std::{io, str};
 
 // The log has room for a call behind 512 records.
 const LOG_WORDS: usize = 1024 * WORDS;
@@ -106,25 +107,28 @@ fn play_day(
 
 // An argument is a number of at most nine digits.
 fn number_in(text: &str) -> Option<u64> {
-    if text.len() > 9 || text.starts_with('+') {
+    if text.starts_with('+') {
         return None;
     }
     text.parse().ok()
 }
 
-fn argument(args: &[String], i: usize, other: u64) -> u64 {
-    args.get(i)
-        .and_then(|text| number_in(text.as_str()))
+// The number that an argument is, or another where it is none. Read by itself, since std's list of them is refused whole where one is not UTF-8.
+fn argument(rt: &impl Env, i: usize, other: u64) -> u64 {
+    let mut bytes = [0; 9];
+    let length = rt.arg(i, &mut bytes).unwrap_or(0);
+    str::from_utf8(&bytes[..length])
+        .ok()
+        .and_then(number_in)
         .unwrap_or(other)
 }
 
 fn main(rt: HostRuntime) -> io::Result<()> {
-    let args: Vec<String> = env::args(&rt)?.collect(rt.alloc())?;
-    let number = argument(&args, 1, 0);
-    let rows = argument(&args, 2, 64);
-    let orders = argument(&args, 3, 4);
-    let repeats = argument(&args, 4, 1);
-    let passes = argument(&args, 5, 0);
+    let number = argument(&rt, 1, 0);
+    let rows = argument(&rt, 2, 64);
+    let orders = argument(&rt, 3, 4);
+    let repeats = argument(&rt, 4, 1);
+    let passes = argument(&rt, 5, 0);
     for kind in Kind::ALL {
         if number == 0 || number == u64::from(kind) {
             play_day(&rt, Day { kind, rows, orders }, repeats, passes)?;

@@ -1,16 +1,21 @@
 -- Deliveries and the end of data: one law for each way out. Assumes nothing.
-use Prim.Native.Nat.{ℕ, suc, ◌+◌, ◌<◌, ◌≤◌}
+use Prim.Native.Nat.{ℕ, zero, suc, ◌+◌, ◌<◌, ◌≤◌, min}
+use mathlib.Core.Bool.{Bool, true, false}
 use mathlib.Core.List.{List, map}
 use mathlib.Core.Path.{◌≡◌, refl, sym, ap, ◌∙◌}
 use native.Mathlib.Numerals.{add-one}
+use native.Mathlib.Omega.{arith}
+use lib.Dec.{leb}
 use lib.ListN.{length, drop, get_or, drop_of_length-le}
 use lib.Seq.{drop-cons}
+use borrow.Author.Tests.{leb-true, leb-false}
 use Rattle.std.specs.Prelude.{Option, Some, None, Ok, Err}
 use Rattle.std.specs.Option.{ok_or}
 use Rattle.numbers.specs.Choice.{on_some}
 use Rattle.numbers.specs.Words.{fitting}
 use Rattle.lists.specs.Lists.{live, popped, taken_of, emptied}
 use Rattle.lists.proofs.Cases.{different}
+use Rattle.lists.proofs.Exits.{entry_over, take_none}
 use Rattle.book.specs.Entries.{blank_msg, blank_delivery, blank_obs}
 use Rattle.book.specs.declared.Delivery.{Delivery}
 use Rattle.book.specs.declared.VenueMsg.{VenueMsg}
@@ -54,6 +59,25 @@ module _ (l m : Logged) (s : KernelState) (d : Delivery) (q : Deliveries) {a : C
 
     pub delivered : {u : KernelState} {a : AgentAccount} → rules.ran_to u ≡ count_reject d.report t → a ≡ on_delivery d.report u.account → actual (Ok tt) (with_account u a) m ≡ expected l (deliver_next s)
     delivered {u = u} f g = came_out (quiet_on m _ _ e (quiet_on m _ _ f (ran_here m _ ∙ ap (λ y. expected m (rules.ran_to (with_account u y))) g)))
+
+-- ---- where no turn does anything: the count is above the capacity, and none comes out
+module _ (s : KernelState) (h : 24 < s.deliveries.count) where
+  none_comes : deliver_next s ≡ rules.ran_to s
+  unfolding deliver_next rules.taking on_some
+  none_comes = rw (← take_none 24 s.deliveries blank_delivery 0 (entry_over 24 s.deliveries blank_delivery 0 h))
+
+  all_over : (k : ℕ) → deliver_all k s ≡ rules.ran_to s
+  unfolding deliver_all rules.and_then
+  all_over zero = refl
+  all_over (suc k) = rw none_comes (all_over k)
+
+-- as many turns as there are deliveries, and no more than places, deliver all
+pub all_delivered : (s : KernelState) {turns : ℕ} → turns ≡ min s.deliveries.count 24 → deliver_all turns s ≡ deliver_all s.deliveries.count s
+all_delivered s {turns} h = go (leb s.deliveries.count 24) refl
+  where
+    go : (b : Bool) → leb s.deliveries.count 24 ≡ b → deliver_all turns s ≡ deliver_all s.deliveries.count s
+    go true e = let k : s.deliveries.count ≤ 24 = leb-true _ _ e in let f : turns ≡ s.deliveries.count = omega (arith, h) in rw f
+    go false e = let k = leb-false _ _ e in all_over s k turns ∙ sym (all_over s k s.deliveries.count)
 
 -- ---- all of them: n are left at s, and t and m are what the first one leaves
 pub all_done : {n : ℕ} (l : Logged) (s : KernelState) → n ≡ 0 → actual (Ok tt) s l ≡ expected l (deliver_all n s)

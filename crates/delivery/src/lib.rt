@@ -58,11 +58,11 @@ pub fn deliver_next(s: &mut KernelState, log: &mut Log) -> Result<(), HaltReason
     Ok(())
 }
 
-// All deliveries, in list order whatever their times.
+// All deliveries, in list order whatever their times: a turn for each, and no more than there are places.
 fn deliver_all(s: &mut KernelState, log: &mut Log) -> Result<(), HaltReason>
     ensures { actual (halting result) s.new (log_of log.new) ≡ expected (log_of log.old) (deliver_all s.old.deliveries.count s.old) }
 {
-    for _ in 0..s.deliveries.count {
+    for _ in 0..s.deliveries.count.min(deliveries::CAPACITY) {
         deliver_next(s, log)?;
     }
     Ok(())

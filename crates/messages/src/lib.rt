@@ -2,11 +2,9 @@
 #![tactic(auto)]
 
 ghost use Rattle.std.specs.Prelude.{◌≡◌};
-ghost use Rattle.book.specs.declared.config.Config.{Config};
-ghost use Rattle.state.specs.declared.KernelState.{KernelState};
-ghost use Rattle.rules.specs.Messages.{activate, activation, acts, apply_next_msg};
+ghost use Rattle.rules.specs.Messages.{apply_next_msg};
 ghost use Rattle.reports.specs.Log.{log_of, expected, actual, halting};
-ghost use Rattle.messages.specs.Acts.{on_expiry, acts_at};
+ghost use Rattle.messages.specs.Acts.{life_of, expiry_of};
 
 use book::config::Config;
 use book::{MsgKind, VenueMsg, VenueOrder};
@@ -18,9 +16,9 @@ use reports::log::Log;
 use state::{HaltReason, KernelState};
 
 // The time of the expiry of an order with a life, if it is valid. There is to be a number for it, too.
-#[tactic(auto, unfolding(rules::specs::Messages::activation, numbers::specs::Choice::pick, numbers::specs::Choice::on_some, numbers::specs::Words::fitting))]
+#[tactic(auto, unfolding(numbers::specs::Choice::pick, numbers::specs::Choice::on_some, numbers::specs::Words::fitting))]
 fn expiry_after(s: &KernelState, order: &VenueOrder, life: u64) -> Result<Option<u64>, HaltReason>
-    ensures { (c : Config) (t : KernelState) → on_expiry result s.now (λ at. activate c order.now at t) ≡ activation c order.now life s.now t }
+    ensures { result ≡ life_of order.now life s.now.seqs.next_msg_seq }
 {
     if !is_valid(order) || life == 0 {
         return Ok(None);
@@ -32,7 +30,7 @@ fn expiry_after(s: &KernelState, order: &VenueOrder, life: u64) -> Result<Option
 
 // When the order that a message activates expires, if it does.
 fn expiry_of(s: &KernelState, msg: &VenueMsg) -> Result<Option<u64>, HaltReason>
-    ensures { (c : Config) (t : KernelState) → on_expiry result s.now (λ at. acts_at c msg.now.kind at t) ≡ acts c msg.now.kind s.now t }
+    ensures { result ≡ expiry_of msg.now.kind s.now.seqs.next_msg_seq }
 {
     match msg.kind {
         MsgKind::Activate { order, life } => expiry_after(s, &order, life),

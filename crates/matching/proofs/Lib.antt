@@ -1,2 +1,3 @@
 pub mod Fills
+pub mod Idle
 pub mod Passes

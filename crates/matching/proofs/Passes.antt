@@ -37,7 +37,7 @@ unfolding match_from and_then
 match_idle c row s h zero i = refl
 match_idle c row s h (suc k) i = rw (h i) (match_idle c row s h k (i + 1))
 
-sweep_idle : (s : KernelState) → ((i : ℕ) → terminal_at i s ≡ false) → (k i : ℕ) → sweep_from k i s ≡ ran_to s
+pub sweep_idle : (s : KernelState) → ((i : ℕ) → terminal_at i s ≡ false) → (k i : ℕ) → sweep_from k i s ≡ ran_to s
 unfolding sweep_from and_then pick
 sweep_idle s h zero i = refl
 sweep_idle s h (suc k) i = rw (h i) (sweep_idle s h k (i + 1))

@@ -23,7 +23,7 @@ use Rattle.runline.specs.declared.Line.{Line}
 use Rattle.runline.specs.declared.Line.TheVariants as line
 use Rattle.runtake.specs.declared.BadLine.{BadLine}
 use Rattle.runtake.specs.declared.Lots.{Lots}
-use Rattle.runtake.specs.declared.Reading as code
+use Rattle.runtake.specs.declared.Reader as code
 
 -- what the lines so far have said, and the words that the rows were read into
 pub record Reading : Type 0 where
@@ -36,8 +36,8 @@ pub record Reading : Type 0 where
   pub rows : ℕ
 
 -- the same of the code's, whose words are lent
-abbrev pub reading_of : code.Reading → Reading
-reading_of r = record { cfg = r.cfg; seed = r.seed; lots = r.lots; msgs = r.msgs; account = r.account; words = r.words.now; rows = r.rows }
+abbrev pub reading_of : code.Reader → Reading
+reading_of r = record { cfg = r.reading.cfg; seed = r.reading.seed; lots = r.reading.lots; msgs = r.reading.msgs; account = r.reading.account; words = r.words.now; rows = r.reading.rows }
 
 -- before the first line
 abbrev pub blank_reading : List ℕ → Reading
@@ -57,7 +57,7 @@ taken (Ok v) x = Some x
 taken (Err e) x = None
 
 -- what the code does with a line of which o is to come: it leaves that, or on an error all as it was; and the words are those that were lent
-abbrev pub Takes : Result (Unit {0}) BadLine → code.Reading → code.Reading → Option Reading → Type 0
+abbrev pub Takes : Result (Unit {0}) BadLine → code.Reader → code.Reader → Option Reading → Type 0
 Takes result old new o = (taken result (reading_of new) ≡ o) × OnErr result (new ≡ old) × (new.words.ghost_name ≡ old.words.ghost_name)
 
 -- ---- the line behind n others: "First `c`"; "`f`"; "then any of `o` .. and `x`"; "then `r` rows"

@@ -83,33 +83,41 @@ fn mark_all(msgs: &mut [VenueMsg], id: u64)
     }
 }
 
-// What the lines so far have said. The rows stand in the front of the words that the caller lent: both are fields here. With a struct of the two within this one the proof did not close that the words come back to the caller.
-#[derive(Drop)]
-pub struct Reading<'a> {
+// What the lines so far have said; of the rows, how many there are.
+#[derive(Clone, Copy)]
+pub struct Reading {
     pub cfg: Config,
     pub seed: u64,
     pub lots: Lots,
     pub msgs: Msgs,
     pub account: AgentAccount,
-    pub words: &'a mut [u64; MOST_WORDS],
     pub rows: usize,
 }
 
+// The same, with the words that the caller lent, in whose front the rows stand.
+#[derive(Drop)]
+pub struct Reader<'a> {
+    pub reading: Reading,
+    pub words: &'a mut [u64; MOST_WORDS],
+}
+
 // Each line stands behind n others, as the caller counts them: its text bounds n, and a count in here would have no bound. A bad line changes nothing: what can fail comes first, or goes on a copy.
-impl<'a> Reading<'a> {
+impl<'a> Reader<'a> {
     // Before the first line.
-    pub fn new(words: &'a mut [u64; MOST_WORDS]) -> Reading<'a>
+    pub fn new(words: &'a mut [u64; MOST_WORDS]) -> Reader<'a>
         ensures blank { reading_of result ≡ blank_reading words.old }
         ensures lent { result.words.ghost_name ≡ words.entry.ghost_name }
     {
-        Reading {
-            cfg: Config::default(),
-            seed: 0,
-            lots: Lots::default(),
-            msgs: Msgs::new(),
-            account: AgentAccount::new(),
+        Reader {
+            reading: Reading {
+                cfg: Config::default(),
+                seed: 0,
+                lots: Lots::default(),
+                msgs: Msgs::new(),
+                account: AgentAccount::new(),
+                rows: 0,
+            },
             words,
-            rows: 0,
         }
     }
 
@@ -120,8 +128,8 @@ impl<'a> Reading<'a> {
         if n != 0 {
             return Err(BadLine);
         }
-        self.cfg = cfg;
-        self.seed = seed;
+        self.reading.cfg = cfg;
+        self.reading.seed = seed;
         Ok(())
     }
 
@@ -132,16 +140,16 @@ impl<'a> Reading<'a> {
         if n != 1 {
             return Err(BadLine);
         }
-        self.cfg.fill = fill;
+        self.reading.cfg.fill = fill;
         Ok(())
     }
 
     // Orders and cancels stand behind the first two lines and before the first row.
     #[tactic(auto, using(std::proofs::lemmas::Bool::Decides::nat_tests), unfolding(crate::specs::Take::is_message_due, numbers::specs::Choice::pick))]
     fn is_message_due(&self, n: u64) -> bool
-        ensures { result ≡ is_message_due n self.now.rows }
+        ensures { result ≡ is_message_due n self.now.reading.rows }
     {
-        n >= HEAD_LINES && self.rows == 0
+        n >= HEAD_LINES && self.reading.rows == 0
     }
 
     // An order's lots are reserved, its account opened and its activation queued.
@@ -152,17 +160,18 @@ impl<'a> Reading<'a> {
         if !self.is_message_due(n) {
             return Err(BadLine);
         }
-        let lots = self.lots.reserve(order.side, order.qty).ok_or(BadLine)?;
-        let mut account = self.account;
+        let reading = &mut self.reading;
+        let lots = reading.lots.reserve(order.side, order.qty).ok_or(BadLine)?;
+        let mut account = reading.account;
         let opened = OpenOrder {
             order_id: order.id,
             awaiting_cancel_outcome: false,
         };
         account.push(opened).answer?;
         let activation = MsgKind::Activate { order, life };
-        queue(&mut self.msgs, order.active_after_ns, activation)?;
-        self.lots = lots;
-        self.account = account;
+        queue(&mut reading.msgs, order.active_after_ns, activation)?;
+        reading.lots = lots;
+        reading.account = account;
         Ok(())
     }
 
@@ -174,10 +183,10 @@ impl<'a> Reading<'a> {
         if !self.is_message_due(n) {
             return Err(BadLine);
         }
-        let mut msgs = self.msgs;
+        let mut msgs = self.reading.msgs;
         mark_all(&mut msgs.slots, id);
         queue(&mut msgs, eff_ns, MsgKind::Cancel { id })?;
-        self.msgs = msgs;
+        self.reading.msgs = msgs;
         Ok(())
     }
 
@@ -186,13 +195,13 @@ impl<'a> Reading<'a> {
     fn take_row(&mut self, n: u64, tick: KernelTick) -> Result<(), BadLine>
         ensures { Takes result self.old self.new (take_row n tick (reading_of self.old)) }
     {
-        if n < HEAD_LINES || self.rows >= MOST_ROWS {
+        if n < HEAD_LINES || self.reading.rows >= MOST_ROWS {
             return Err(BadLine);
         }
-        let at = self.rows * ROW_WORDS;
+        let at = self.reading.rows * ROW_WORDS;
         let words = &mut *self.words;
         words[at..at + ROW_WORDS].copy_from_slice(&<[u64; ROW_WORDS]>::from(tick));
-        self.rows += 1;
+        self.reading.rows += 1;
         Ok(())
     }
 

@@ -20,7 +20,7 @@ use Rattle.text.specs.Fields.{parted}
 use Rattle.text.proofs.PartedLaws.{parted_some, Other, parted_whole, parted_at}
 use Rattle.runtake.specs.Take.{Reading, reading_of, Takes, take_text}
 use Rattle.runtake.specs.declared.BadLine.{BadLine}
-use Rattle.runtake.specs.declared.Reading as code
+use Rattle.runtake.specs.declared.Reader as code
 use Rattle.runtext.specs.declared.Fault.{Fault}
 use Rattle.runtext.specs.declared.Fault.TheVariants.{TooLong, Line, Retired}
 use Rattle.lists.proofs.Cases.{different}
@@ -92,11 +92,11 @@ module _ (n : ℕ) (r : Reading) where
     line_bad f = rw (next_part, ← f)
 
 -- ---- how a line ended, with the fault that it is where it is bad
-pub is_taken : (result : Result (Unit {0}) BadLine) (old new : code.Reading) (fault : Fault) {v : Unit {0}} {o : Option Reading} → Takes result old new o → Ok v ≡ result_or result (Err fault) → Some (reading_of new) ≡ o
+pub is_taken : (result : Result (Unit {0}) BadLine) (old new : code.Reader) (fault : Fault) {v : Unit {0}} {o : Option Reading} → Takes result old new o → Ok v ≡ result_or result (Err fault) → Some (reading_of new) ≡ o
 is_taken (Ok u) old new fault t e = t.0
 is_taken (Err b) old new fault t e = different cc
 
-pub is_bad : (result : Result (Unit {0}) BadLine) (old new : code.Reading) (fault : Fault) {f : Fault} {o : Option Reading} → Takes result old new o → Err f ≡ result_or result (Err fault) → (None ≡ o) × (new ≡ old) × (f ≡ fault)
+pub is_bad : (result : Result (Unit {0}) BadLine) (old new : code.Reader) (fault : Fault) {f : Fault} {o : Option Reading} → Takes result old new o → Err f ≡ result_or result (Err fault) → (None ≡ o) × (new ≡ old) × (f ≡ fault)
 is_bad (Ok u) old new fault t e = different cc
 is_bad (Err b) old new fault t e = (t.0, t.1, cc)
 

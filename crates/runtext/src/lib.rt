@@ -7,7 +7,7 @@ ghost use Rattle.runtext.specs.Read.{seeded, start_state, script_of, read_of, li
 
 use book::config::Config;
 use runline::line_of;
-use runtake::{BadLine, HEAD_LINES, MOST_WORDS, Reading};
+use runtake::{BadLine, HEAD_LINES, MOST_WORDS, Reader};
 use state::{Control, GateState, KernelState, Phase, Seqs};
 
 // A run file has no more bytes.
@@ -48,9 +48,10 @@ fn seed_of(seed: u64) -> u64
 
 // The state at the start.
 #[tactic(auto, unfolding(crate::specs::Read::start_state))]
-fn start_state(reading: &Reading) -> KernelState
-    ensures { result ≡ start_state (reading_of reading.now) }
+fn start_state(reader: &Reader) -> KernelState
+    ensures { result ≡ start_state (reading_of reader.now) }
 {
+    let reading = &reader.reading;
     KernelState {
         control: Control {
             phase: Phase::ObsQueued,
@@ -73,31 +74,31 @@ fn start_state(reading: &Reading) -> KernelState
     }
 }
 
-impl From<&Reading<'_>> for Script {
-    ghost from_gives = { λ reading script. script ≡ script_of (reading_of reading.now) };
+impl From<&Reader<'_>> for Script {
+    ghost from_gives = { λ reader script. script ≡ script_of (reading_of reader.now) };
 
     #[tactic(auto, unfolding(crate::specs::Read::script_of))]
-    fn from(reading: &Reading) -> Script {
+    fn from(reader: &Reader) -> Script {
         Script {
-            cfg: reading.cfg,
-            state: start_state(reading),
-            rows: reading.rows,
+            cfg: reader.reading.cfg,
+            state: start_state(reader),
+            rows: reader.reading.rows,
         }
     }
 }
 
 // A line as the text has it, behind n others.
 #[tactic(auto, unfolding(runtake::specs::Take::take_text, numbers::specs::Choice::on_some))]
-fn take_text(reading: &mut Reading, n: u64, line: &[u8]) -> Result<(), BadLine>
-    ensures { Takes result reading.old reading.new (take_text n line.now (reading_of reading.old)) }
+fn take_text(reader: &mut Reader, n: u64, line: &[u8]) -> Result<(), BadLine>
+    ensures { Takes result reader.old reader.new (take_text n line.now (reading_of reader.old)) }
 {
-    reading.take_line(n, line_of(line).ok_or(BadLine)?)
+    reader.take_line(n, line_of(line).ok_or(BadLine)?)
 }
 
 // The lines of the text, up to the first bad one. A piece without a newline is a last line that is not ended, which is bad. So is an absent `c` or `f`. Only a text with no bad line is retired for its minimum. The lines are counted, and not numbered by `enumerate`, since behind the loop too it is asked how many there were.
-fn read_lines(reading: &mut Reading, text: &[u8]) -> Result<(), Fault>
-    ensures reads { lines_read result (reading_of reading.new) ≡ read_lines text.now (reading_of reading.old) }
-    ensures lent { reading.new.words.ghost_name ≡ reading.old.words.ghost_name }
+fn read_lines(reader: &mut Reader, text: &[u8]) -> Result<(), Fault>
+    ensures reads { lines_read result (reading_of reader.new) ≡ read_lines text.now (reading_of reader.old) }
+    ensures lent { reader.new.words.ghost_name ≡ reader.old.words.ghost_name }
 {
     if text.len() > MOST_BYTES {
         return Err(Fault::TooLong);
@@ -105,13 +106,13 @@ fn read_lines(reading: &mut Reading, text: &[u8]) -> Result<(), Fault>
     let mut n = 0;
     for piece in text.split_inclusive(|b| *b == b'\n') {
         let line = piece.strip_suffix(b"\n").ok_or(Fault::Line(n + 1))?;
-        take_text(reading, n, line).or(Err(Fault::Line(n + 1)))?;
+        take_text(reader, n, line).or(Err(Fault::Line(n + 1)))?;
         n += 1;
     }
     if n < HEAD_LINES {
         return Err(Fault::Line(n + 1));
     }
-    if reading.cfg.fill.has_minimum() {
+    if reader.reading.cfg.fill.has_minimum() {
         return Err(Fault::Retired);
     }
     Ok(())
@@ -122,9 +123,9 @@ fn read_lines(reading: &mut Reading, text: &[u8]) -> Result<(), Fault>
 pub fn read(text: &[u8], words: &mut [u64; MOST_WORDS]) -> Result<Script, Faulty>
     ensures { read_of result words.new ≡ read_text text.now words.old }
 {
-    let mut reading = Reading::new(words);
-    let outcome = read_lines(&mut reading, text);
-    let script = Script::from(&reading);
+    let mut reader = Reader::new(words);
+    let outcome = read_lines(&mut reader, text);
+    let script = Script::from(&reader);
     match outcome {
         Ok(()) => Ok(script),
         Err(fault) => Err(Faulty { fault, script }),

@@ -37,7 +37,8 @@ fn print_missing(rt: &impl Print) -> io::Result<()> {
     print_line(rt, |text| put_bad(text, 0))
 }
 
-// A proved loop has to end, so the batches are counted, to more than any run has: each turn but the last pauses at a row's observation, and a run file has at most 512 rows. A run whose lines cannot be written makes no more calls.
+// A proved loop has to end, so the batches are counted, to more than any run has: each turn but the last pauses at a row's observation, and a run file has at most 512 rows. A run whose lines cannot be written makes no more calls. Not put into the reading of the file: a file that is not run then needs no room for log and lines.
+#[inline(never)]
 fn run(rt: &impl Print, cfg: &Config, rows: &[u64], start: KernelState) -> io::Result<()> {
     let mut log = [0; LOG_WORDS];
     let mut bytes = [0; TEXT_BYTES];

@@ -28,16 +28,21 @@ impl<T: Drop> From<AllocFailed<T>> for ReadError {
     }
 }
 
-// Lines, each a name and behind it fields, each behind one space. The text, and the number of the line in which it stands.
+// Lines, each a name and behind it fields, each behind one space. The text, whether its end was seen, behind which it is not read again, and the number of the line in which it stands.
 #[derive(Drop)]
 pub struct Lines<R> {
     from: R,
+    ended: bool,
     number: u64,
 }
 
 impl<R: BufRead> Lines<R> {
     pub fn new(from: R) -> Self {
-        Lines { from, number: 1 }
+        Lines {
+            from,
+            ended: false,
+            number: 1,
+        }
     }
 
     // The error at the line in which the text stands.
@@ -47,10 +52,15 @@ impl<R: BufRead> Lines<R> {
 
     // The next byte, or none at the end of the text. A text that cannot be read ends there.
     pub fn peek(&mut self) -> Option<u8> {
-        match self.from.fill_buf() {
+        if self.ended {
+            return None;
+        }
+        let next = match self.from.fill_buf() {
             Ok(block) => block.first().copied(),
             Err(_) => None,
-        }
+        };
+        self.ended = next.is_none();
+        next
     }
 
     // Past the byte that was seen.

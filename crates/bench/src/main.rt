@@ -105,7 +105,7 @@ fn play_day(
     )
 }
 
-// An argument is a number of at most nine digits.
+// A number in decimal. It has no plus sign, which `parse` would take.
 fn number_in(text: &str) -> Option<u64> {
     if text.starts_with('+') {
         return None;
@@ -113,7 +113,7 @@ fn number_in(text: &str) -> Option<u64> {
     text.parse().ok()
 }
 
-// The number that an argument is, or another where it is none. Read by itself, since std's list of them is refused whole where one is not UTF-8.
+// The number of at most nine digits that an argument is, or another where it is none. Read by itself, since std's list of them is refused whole where one is not UTF-8.
 fn argument(rt: &impl Env, i: usize, other: u64) -> u64 {
     let mut bytes = [0; 9];
     let length = rt.arg(i, &mut bytes).unwrap_or(0);

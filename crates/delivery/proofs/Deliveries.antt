@@ -1,20 +1,16 @@
 -- Deliveries and the end of data: one law for each way out. Assumes nothing.
 use Prim.Native.Nat.{ℕ, zero, suc, ◌+◌, ◌<◌, ◌≤◌, min}
-use mathlib.Core.Bool.{Bool, true, false}
 use mathlib.Core.List.{List, map}
 use mathlib.Core.Path.{◌≡◌, refl, sym, ap, ◌∙◌}
 use native.Mathlib.Numerals.{add-one}
-use native.Mathlib.Omega.{arith}
-use lib.Dec.{leb}
 use lib.ListN.{length, drop, get_or, drop_of_length-le}
 use lib.Seq.{drop-cons}
-use borrow.Author.Tests.{leb-true, leb-false}
 use Rattle.std.specs.Prelude.{Option, Some, None, Ok, Err}
 use Rattle.std.specs.Option.{ok_or}
 use Rattle.numbers.specs.Choice.{on_some}
 use Rattle.numbers.specs.Words.{fitting}
 use Rattle.lists.specs.Lists.{live, popped, taken_of, emptied}
-use Rattle.lists.proofs.Cases.{different}
+use Rattle.lists.proofs.Cases.{different, enough_turns}
 use Rattle.lists.proofs.Exits.{entry_over, take_none}
 use Rattle.book.specs.Entries.{blank_msg, blank_delivery, blank_obs}
 use Rattle.book.specs.declared.Delivery.{Delivery}
@@ -73,11 +69,7 @@ module _ (s : KernelState) (h : 24 < s.deliveries.count) where
 
 -- as many turns as there are deliveries, and no more than places, deliver all
 pub all_delivered : (s : KernelState) {turns : ℕ} → turns ≡ min s.deliveries.count 24 → deliver_all turns s ≡ deliver_all s.deliveries.count s
-all_delivered s {turns} h = go (leb s.deliveries.count 24) refl
-  where
-    go : (b : Bool) → leb s.deliveries.count 24 ≡ b → deliver_all turns s ≡ deliver_all s.deliveries.count s
-    go true e = let k : s.deliveries.count ≤ 24 = leb-true _ _ e in let f : turns ≡ s.deliveries.count = omega (arith, h) in rw f
-    go false e = let k = leb-false _ _ e in all_over s k turns ∙ sym (all_over s k s.deliveries.count)
+all_delivered s = enough_turns (λ k. deliver_all k s) (rules.ran_to s) s.deliveries.count 24 (all_over s)
 
 -- ---- all of them: n are left at s, and t and m are what the first one leaves
 pub all_done : {n : ℕ} (l : Logged) (s : KernelState) → n ≡ 0 → actual (Ok tt) s l ≡ expected l (deliver_all n s)

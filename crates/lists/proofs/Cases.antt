@@ -1,9 +1,11 @@
 -- What is so of each way out of a choice is so of the choice. Assumes nothing.
 use Rattle.std.specs.Prelude.{Option, Some, None, Ok, Err, ok_or}
 use mathlib.Core.Bool.{Bool, true, false}
-use mathlib.Core.Path.{◌≡◌, refl}
+use mathlib.Core.Path.{◌≡◌, refl, sym, ◌∙◌}
 use native.Mathlib.Omega.{arith}
-use Prim.Native.Nat.{ℕ}
+use Prim.Native.Nat.{ℕ, ◌≤◌, ◌<◌, min}
+use lib.Dec.{leb}
+use borrow.Author.Tests.{leb-true, leb-false}
 use Rattle.numbers.specs.Choice.{pick, on_some}
 
 pub pick_case : {A : Type 0} (P : A → Type 0) (b : Bool) (x y : A) → (b ≡ true → P x) → (b ≡ false → P y) → P (pick b x y)
@@ -53,3 +55,11 @@ some_of None h e = different cc
 pub none_of : {A E : Type 0} (o : Option A) {h e : E} → Err e ≡ ok_or o h → (o ≡ None) × (e ≡ h)
 none_of (Some y) q = different cc
 none_of None q = (refl, cc)
+
+-- ---- a loop with a turn for each entry, and no more turns than places, gives all: over the capacity no turn does anything
+pub enough_turns : {A : Type 0} (f : ℕ → A) (z : A) (count cap : ℕ) {turns : ℕ} → (cap < count → (k : ℕ) → f k ≡ z) → turns ≡ min count cap → f turns ≡ f count
+enough_turns f z count cap {turns} over h = go (leb count cap) refl
+  where
+    go : (b : Bool) → leb count cap ≡ b → f turns ≡ f count
+    go true e = let k : count ≤ cap = leb-true _ _ e in let g : turns ≡ count = omega (arith, h) in rw g
+    go false e = let k = leb-false _ _ e in over k turns ∙ sym (over k count)

@@ -1,7 +1,7 @@
 -- A sweep that finds no terminal order changes nothing. Assumes nothing.
-use Prim.Native.Nat.{ℕ, zero, suc, ◌+◌, ◌≤◌}
+use Prim.Native.Nat.{ℕ}
 use mathlib.Core.Bool.{Bool, true, false}
-use mathlib.Core.List.{List, [], ◌∷◌}
+use mathlib.Core.List.{List}
 use mathlib.Core.Path.{◌≡◌, refl, sym, ap, ◌∙◌}
 use native.Mathlib.Omega.{arith}
 use lib.Dec.{leb, ltb}
@@ -9,6 +9,9 @@ use lib.ListN.{length, get_or, take}
 use lib.Seq.{get_or-take}
 use borrow.Author.Tests.{ltb-true, ltb-false}
 use Rattle.std.specs.Prelude.{Option, Some, None, not, cond}
+use Rattle.std.proofs.lemmas.Bool.{not-true}
+use Rattle.std.proofs.lemmas.List.{get_or_past}
+use Rattle.std.proofs.lemmas.List.Sums.{prefix_len_passes}
 use Rattle.numbers.specs.Choice.{pick, on_some}
 use Rattle.lists.specs.Lists.{before, found_in, live, entry_at}
 use Rattle.lists.proofs.Cases.{pick_case, some_case, different}
@@ -27,23 +30,14 @@ any_terminal os = on_some (found_in (λ o. is_terminal o.state) (live orders_cap
 
 -- ---- a search that finds none: no entry fits
 module _ {A : Type 0} (p : A → Bool) (d : A) (z : p d ≡ false) where
-  none_fits : (l : List A) → length l ≤ before p l → (i : ℕ) → p (get_or l i d) ≡ false
-  unfolding before
-  none_fits [] h i = z
-  none_fits (x ∷ l) h i = go (p x) refl (λ k. none_fits l k) h i
-    where
-      go : (b : Bool) → p x ≡ b → (length l ≤ before p l → (i : ℕ) → p (get_or l i d) ≡ false) → suc (length l) ≤ cond (not b) (1 + before p l) 0 → (i : ℕ) → p (get_or (x ∷ l) i d) ≡ false
-      go true e f k i = absurd (omega (arith, k))
-      go false e f k zero = e
-      go false e f k (suc i) = f (omega (arith, k)) i
-
   none_found : (l : List A) → found_in p l ≡ None → (i : ℕ) → p (get_or l i d) ≡ false
   unfolding found_in before
-  none_found l h = go (ltb (before p l) (length l)) refl h
+  none_found l h i = go (ltb (before p l) (length l)) (ltb i (length l)) refl refl h
     where
-      go : (b : Bool) → ltb (before p l) (length l) ≡ b → cond b (Some (before p l)) None ≡ None → (i : ℕ) → p (get_or l i d) ≡ false
-      go true e k = different cc
-      go false e k = none_fits l (ltb-false _ _ e)
+      go : (b c : Bool) → ltb (before p l) (length l) ≡ b → ltb i (length l) ≡ c → cond b (Some (before p l)) None ≡ None → p (get_or l i d) ≡ false
+      go true c e f k = different cc
+      go false true e f k = not-true _ (prefix_len_passes (λ x. not (p x)) l i d (omega (arith, ltb-false _ _ e, ltb-true _ _ f)))
+      go false false e f k = rw (get_or_past l i d (ltb-false _ _ f)) z
 
 -- ---- no live order is terminal
 module _ (os : Orders) (h : any_terminal os ≡ false) where

@@ -1,15 +1,13 @@
 -- The pass over the orders, the sweep, and the row. Assumes nothing.
 use Prim.Native.Nat.{ℕ, zero, suc, ◌+◌, ◌-◌, ◌≤◌, ◌<◌, min}
-use mathlib.Core.Bool.{Bool, true, false}
+use mathlib.Core.Bool.{true, false}
 use mathlib.Core.Path.{◌≡◌, refl, sym, ap, ◌∙◌}
 use native.Mathlib.Omega.{arith}
-use lib.Dec.{leb}
-use borrow.Author.Tests.{leb-true, leb-false}
 use Rattle.std.specs.Prelude.{Option, Some, None, Result, Ok, Err, ok_or}
 use Rattle.numbers.specs.Choice.{pick, on_some}
 use Rattle.numbers.specs.Words.{fitting}
 use Rattle.lists.specs.Lists.{entry_at, taken_at, taken_of}
-use Rattle.lists.proofs.Cases.{none_of}
+use Rattle.lists.proofs.Cases.{none_of, enough_turns}
 use Rattle.lists.proofs.Exits.{entry_over, none_same}
 use Rattle.lists.specs.declared.Counted.{Counted}
 use Rattle.book.specs.Capacities.{orders_capacity}
@@ -56,23 +54,12 @@ module _ (s : KernelState) (h : 8 < s.orders.count) where
 
 -- as many looks as there are orders, and no more than places, are all
 module _ (s : KernelState) (looks : ℕ) (h : looks ≡ min s.orders.count orders_capacity) where
-  few : leb s.orders.count 8 ≡ true → looks - 0 ≡ s.orders.count
-  few e = let k : s.orders.count ≤ 8 = leb-true _ _ e in omega arith
-
   pub all_matched : (c : Config) (row : KernelTick) → match_from c row (looks - 0) 0 s ≡ match_from c row s.orders.count 0 s
-  all_matched c row = go (leb s.orders.count 8) refl
-    where
-      go : (b : Bool) → leb s.orders.count 8 ≡ b → match_from c row (looks - 0) 0 s ≡ match_from c row s.orders.count 0 s
-      go true e = rw (few e)
-      go false e = let k = leb-false _ _ e in match_above s k c row (looks - 0) 0 ∙ sym (match_above s k c row s.orders.count 0)
+  all_matched c row = enough_turns (λ k. match_from c row k 0 s) (ran_to s) s.orders.count 8 (λ k i. match_above s k c row i 0) (omega (arith, h))
 
   pub all_swept : sweep_from (looks - 0) 0 s ≡ sweep s
   unfolding sweep
-  all_swept = go (leb s.orders.count 8) refl
-    where
-      go : (b : Bool) → leb s.orders.count 8 ≡ b → sweep_from (looks - 0) 0 s ≡ sweep_from s.orders.count 0 s
-      go true e = rw (few e)
-      go false e = let k = leb-false _ _ e in sweep_above s k (looks - 0) 0 ∙ sym (sweep_above s k s.orders.count 0)
+  all_swept = enough_turns (λ k. sweep_from k 0 s) (ran_to s) s.orders.count 8 (λ k i. sweep_above s k i 0) (omega (arith, h))
 
 -- ---- the pass: n places in all, i before this one
 module _ (c : Config) (row : KernelTick) (n i : ℕ) (l : Logged) (s : KernelState) where

@@ -12,7 +12,7 @@ use Rattle.state.specs.declared.KernelState.{KernelState}
 use Rattle.rules.specs.Run.{Run, halt_at}
 use Rattle.rules.specs.Messages.{valid, activate, cancel, expire}
 
--- the time of the expiry of a valid order with a life, where there is a number for it: next is the number that it takes
+-- "before activation leaves, order valid, life set: expiry time past 64 bits 6; the same, next: `next_msg_seq` at maximum 7": what the rules' `activation` tests, by itself (`acts-tested`). It gives the time, or none where there is no expiry
 abbrev pub life_of : VenueOrder → ℕ → ℕ → Result (Option ℕ) HaltReason
 life_of o life next =
     pick (valid o && ltb 0 life)
